@@ -1,0 +1,17 @@
+//! The values, items and nested forms of EdgeQL, and what operators give on them.
+#![tactic(auto)]
+
+mod args;
+mod item;
+mod nested;
+mod operator;
+mod text;
+mod value;
+
+pub use args::{Args, Argument};
+pub use item::{Fault, Item};
+pub use nested::{Field, Nested};
+pub use operator::{Op, OpError, apply_op};
+pub use sqlite_items::{Boxed, Items as List};
+pub use text::{Bytes, Text};
+pub use value::{ScalarTy, Val};

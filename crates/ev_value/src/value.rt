@@ -1,0 +1,29 @@
+//! Values: what a query computes with.
+ghost use Rattle.std.specs.Prelude.{◌≡◌, IfOk};
+
+use crate::text::Text;
+use sqlite_items::Items;
+use std::alloc::{AllocError, Global};
+
+/// A scalar type of the schema language, as the EdgeDB documentation's page on primitive types names them:
+/// `int64`, `str`, `bool` and `uuid`.
+#[derive(Clone, Copy, PartialEq, Eq)]
+pub enum ScalarTy {
+    Int64,
+    Str,
+    Bool,
+    Uuid,
+}
+
+/// A value. There is no null: what is absent is an empty list of items.
+#[derive(Drop)]
+pub enum Val {
+    Int(i64),
+    Str(Text),
+    Bool(bool),
+    /// A uuid, as the number that its sixteen bytes write from the highest byte down (RFC 9562, section 4).
+    Id(u128),
+    /// An object, by its id in the same form.
+    Obj(u128),
+    Tuple(Items<Val>),
+}
