@@ -1,3 +1,4 @@
 pub mod Item
+pub mod JsonText
 pub mod Nested
 pub mod Operator

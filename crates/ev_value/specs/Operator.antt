@@ -1,10 +1,8 @@
 -- What an operator gives for the values of its operands.
-use Rattle.std.specs.Prelude.{ℕ, ◌^◌, ◌≡◌, Bool, List, [], ◌∷◌, if◌then◌else◌, ℤ, pos, negsuc, ◌+ℤ◌, nat_lt, Result, Ok, Err}
+use Rattle.std.specs.Prelude.{◌^◌, ◌≡◌, Bool, List, [], ◌∷◌, if◌then◌else◌, ℤ, pos, negsuc, ◌+ℤ◌, nat_lt, Result, Ok, Err}
 use Rattle.ev_value.specs.declared.item.Fault.TheVariants as fault
 use Rattle.ev_value.specs.declared.item.Item.{Item}
 use Rattle.ev_value.specs.declared.item.Item.TheVariants as item
-use Rattle.ev_value.specs.declared.operator.Op.{Op}
-use Rattle.ev_value.specs.declared.operator.Op.TheVariants as op
 use Rattle.ev_value.specs.declared.operator.OpError.{OpError}
 use Rattle.ev_value.specs.declared.operator.OpError.TheVariants as op_error
 use Rattle.ev_value.specs.declared.value.Val.{Val}

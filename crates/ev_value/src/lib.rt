@@ -5,6 +5,8 @@ mod args;
 mod item;
 mod nested;
 mod operator;
+#[cfg(test)]
+mod tests;
 mod text;
 mod value;
 
@@ -14,4 +16,4 @@ pub use nested::{Field, Nested};
 pub use operator::{Op, OpError, apply_op};
 pub use sqlite_items::{Boxed, Items as List};
 pub use text::{Bytes, Text};
-pub use value::{ScalarTy, Val};
+pub use value::{ScalarTy, Val, copied_values};

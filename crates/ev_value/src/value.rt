@@ -27,3 +27,32 @@ pub enum Val {
     Obj(u128),
     Tuple(Items<Val>),
 }
+
+impl Val {
+    /// The same value, in memory of its own.
+    #[cycle(copy)]
+    pub fn copied(&self, alloc: Global) -> Result<Val, AllocError>
+        ensures { IfOk result (λ v. v ≡ self.now) }
+    {
+        match self {
+            Val::Int(number) => Ok(Val::Int(*number)),
+            Val::Str(text) => Ok(Val::Str(text.copied(alloc)?)),
+            Val::Bool(truth) => Ok(Val::Bool(*truth)),
+            Val::Id(id) => Ok(Val::Id(*id)),
+            Val::Obj(id) => Ok(Val::Obj(*id)),
+            Val::Tuple(parts) => Ok(Val::Tuple(copied_values(alloc, parts.as_slice())?)),
+        }
+    }
+}
+
+/// The same values, in memory of their own.
+#[cycle(copy)]
+pub fn copied_values(alloc: Global, values: &[Val]) -> Result<Items<Val>, AllocError>
+    ensures { IfOk result (λ vs. vs ≡ values.now) }
+{
+    let mut copies = Items::new(alloc);
+    for value in values {
+        copies.push(value.copied(alloc)?)?;
+    }
+    Ok(copies)
+}
