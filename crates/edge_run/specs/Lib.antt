@@ -1,0 +1,10 @@
+pub mod Cursor
+pub mod Deliver
+pub mod Evaluate
+pub mod Headline
+pub mod Modes
+pub mod Outcome
+pub mod Plan
+pub mod Query
+pub mod Reader
+pub mod Run
