@@ -2,9 +2,11 @@
 #![tactic(auto)]
 
 mod gate;
+mod memory_shelf;
 mod shelf;
 mod sink;
 
 pub use gate::{Gate, OpenGate};
+pub use memory_shelf::{File, MemShelf, ReadCall};
 pub use shelf::{Shelf, ShelfError};
 pub use sink::{Sink, SinkError};
