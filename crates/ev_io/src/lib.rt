@@ -3,10 +3,12 @@
 
 mod gate;
 mod memory_shelf;
+mod memory_sink;
 mod shelf;
 mod sink;
 
 pub use gate::{Gate, OpenGate};
 pub use memory_shelf::{File, MemShelf, ReadCall};
+pub use memory_sink::{FailingPut, MemSink};
 pub use shelf::{Shelf, ShelfError};
 pub use sink::{Sink, SinkError};
