@@ -25,8 +25,10 @@ unlisted : (sink : SinkState) → All (λ failure. counted 1 sink.puts ≤ failu
 unlisted sink past bound =
     let place = sink.puts in
     let by_test : (b : Bool) → nat_eq place most_counted ≡ b → cond b None (first_entry sink.failing place) ≡ None =
-        elim [ true ↦ λ e. refl
-             | false ↦ λ e. find-past sink.failing place (λ k d h. omega (arith, past k d h, eqb-false place most_counted e)) ] in
+    elim [
+      | true ↦ λ e. refl
+      | false ↦ λ e. find-past sink.failing place (λ k d h. omega (arith, past k d h, eqb-false place most_counted e))
+    ] in
     by_test (nat_eq place most_counted) refl
 
 not_failing : (listed : Option FailingPut) (left size : ℕ) → listed ≡ None → size ≤ left → (is_some listed || nat_lt left size) ≡ false
