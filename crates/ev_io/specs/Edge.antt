@@ -1,8 +1,11 @@
 -- What the shelf over files and the sink over a stream tell, and what their steps do to bytes that a reader or a writer tells.
-use Rattle.std.specs.Prelude.{ℕ, ◌≡◌, ◌≤◌, ◌<◌, List, [], ◌++◌, length, take, Option, None}
+use Rattle.std.specs.Prelude.{ℕ, ◌≡◌, ◌≤◌, ◌<◌, List, [], ◌++◌, length, take, Option, None, Result, Ok, Err}
 use Rattle.std.specs.Io.KnownBytes.{Appends, Consumes, IsAtEnd}
+use Rattle.ev_io.specs.Count.{counted}
 use Rattle.ev_io.specs.Shelf.{ShelfView}
 use Rattle.ev_io.specs.Sink.{SinkView}
+use Rattle.ev_io.specs.declared.shelf.ShelfError.{ShelfError}
+use Rattle.ev_io.specs.declared.shelf.ShelfError.TheVariants as shelf_error
 
 -- what a shelf over files tells: its count of faults alone
 abbrev pub untold_shelf : ℕ → ShelfView
@@ -11,6 +14,12 @@ untold_shelf faults = record { held = None; calls = None; faults = faults }
 -- what a sink over a stream tells: its count of faults alone
 abbrev pub untold_sink : ℕ → SinkView
 untold_sink faults = record { taken = None; puts = None; handed = None; faults = faults }
+
+-- the count of faults after a read: one more where it failed
+abbrev pub count_after : Result (List ℕ) ShelfError → ℕ → ℕ
+count_after (Err shelf_error.Failed) before = counted 1 before
+count_after (Err shelf_error.Memory) before = before
+count_after (Ok bytes) before = before
 
 -- the writer took some first part of the piece
 pub record AppendsFront (old new : Option (List ℕ)) (piece : List ℕ) : Type 0 where

@@ -1,12 +1,12 @@
 //! The trusted edge: a shelf over real files and a sink over a real stream. Neither tells what it holds or has taken.
 //! An interrupted read or write is a fault as any other, and is not tried again.
-ghost use Rattle.std.specs.Prelude.{◌≡◌, ◌↔◌, ◌<◌, ◌≤◌, MatchResult, IfOk, IfSome, length, take, vec_len};
+ghost use Rattle.std.specs.Prelude.{◌≡◌, ◌↔◌, ◌<◌, ◌≤◌, MatchResult, is_ok, if◌then◌else◌, IfOk, IfSome, length, take, vec_len};
 ghost use Rattle.std.specs.Io.KnownBytes.{Appends};
 ghost use Rattle.std.specs.IoError.{error_kind};
 ghost use Rattle.ev_io.specs.Shelf.{ReadGives, ReadEnds};
 ghost use Rattle.ev_io.specs.Sink.{PutTakes, PutFails};
 ghost use Rattle.ev_io.specs.Count.{counted};
-ghost use Rattle.ev_io.specs.Edge.{AppendsFront, GivesBlock};
+ghost use Rattle.ev_io.specs.Edge.{AppendsFront, GivesBlock, count_after};
 
 use crate::shelf::{Shelf, ShelfError};
 use crate::sink::{Sink, SinkError};
@@ -40,7 +40,12 @@ impl<R: Files + AllocGlobal> Shelf for FileShelf<R> {
 
     ghost seen = { λ s. untold_shelf s.faults };
 
-    fn read(&mut self, name: &str, most: u64) -> Result<Bytes, ShelfError> {
+    fn read(&mut self, name: &str, most: u64) -> Result<Bytes, ShelfError>
+        ensures told { MatchResult result
+            (λ bytes. ReadGives (untold_shelf self.old.faults) name.now most bytes (untold_shelf self.new.faults))
+            (λ e. ReadEnds e (untold_shelf self.old.faults) name.now (untold_shelf self.new.faults)) }
+        ensures count { self.new.faults ≡ count_after result self.old.faults }
+    {
         match read_file(&self.rt, name, most) {
             Ok(bytes) => Ok(Bytes::from_vec(bytes)),
             Err(ShelfError::Memory) => Err(ShelfError::Memory),
@@ -139,9 +144,7 @@ impl<W: Write> Sink for StreamSink<W> {
         ensures bytes { MatchResult result
             (λ _. Appends (W.contents self.old.stream) (W.contents self.new.stream) piece.now)
             (λ _. AppendsFront (W.contents self.old.stream) (W.contents self.new.stream) piece.now) }
-        ensures count { MatchResult result
-            (λ _. self.new.faults ≡ self.old.faults)
-            (λ _. self.new.faults ≡ counted 1 self.old.faults) }
+        ensures count { self.new.faults ≡ (if is_ok result then self.old.faults else counted 1 self.old.faults) }
     {
         match write_whole(&mut self.stream, piece) {
             Ok(()) => Ok(()),
@@ -169,5 +172,108 @@ fn write_whole<W: Write>(stream: &mut W, piece: &[u8]) -> Result<(), SinkError>
     match stream.flush() {
         Ok(()) => Ok(()),
         Err(_) => Err(SinkError::Failed),
+    }
+}
+
+#[cfg(test)]
+mod tests {
+    use super::*;
+    use std::test::Fail;
+
+    /// A writer that takes at most two bytes at a time, and fails or takes nothing after some writes.
+    #[derive(Drop)]
+    struct Flaky {
+        taken: Vec<u8>,
+        writes_left: u64,
+        is_full: bool,
+        flushes: bool,
+    }
+
+    impl Write for Flaky {
+        fn write(&mut self, buf: &[u8]) -> io::Result<usize> {
+            if self.writes_left == 0 {
+                if self.is_full {
+                    return Ok(0);
+                }
+                return Err(io::Error::from(ErrorKind::BrokenPipe));
+            }
+            self.writes_left -= 1;
+            let count = buf.len().min(2);
+            self.taken.extend_from_slice(&buf[..count])?;
+            Ok(count)
+        }
+
+        fn flush(&mut self) -> io::Result<()> {
+            if self.flushes {
+                Ok(())
+            } else {
+                Err(io::Error::from(ErrorKind::StorageFull))
+            }
+        }
+    }
+
+    #[test]
+    fn puts_to_a_stream(rt: HostRuntime) -> Result<(), Fail> {
+        // How many writes go well, whether the writer then takes nothing, whether it flushes;
+        // whether the put is well, what came to the stream, and the count of faults.
+        let rows = [
+            (9, false, true, true, "abcde", 0),
+            (3, false, true, true, "abcde", 0),
+            (2, false, true, false, "abcd", 1),
+            (1, true, true, false, "ab", 1),
+            (0, false, true, false, "", 1),
+            (9, false, false, false, "abcde", 1),
+        ];
+        for (writes_left, is_full, flushes, well, taken, faults) in rows {
+            let mut sink = StreamSink::new(Flaky {
+                taken: Vec::new(rt.alloc()),
+                writes_left,
+                is_full,
+                flushes,
+            });
+            let result = sink.put(b"abcde");
+            assert_eq!(rt; result.is_ok(), well, "after {writes_left} writes");
+            assert_eq!(rt;
+                sink.stream.taken.as_slice(),
+                taken.as_bytes(),
+                "after {writes_left} writes"
+            );
+            assert_eq!(rt; sink.faults, faults, "after {writes_left} writes");
+        }
+        Ok(())
+    }
+
+    #[test]
+    fn reads_a_file(rt: HostRuntime) -> Result<(), Fail> {
+        let path = "ev_io_reads_a_file.tmp";
+        let mut text = Vec::new(rt.alloc());
+        for i in 0..200000u32 {
+            text.push((i % 251) as u8)?;
+        }
+        fs::write(&rt, path, text.as_slice())?;
+        let mut shelf = FileShelf::new(&rt);
+        for most in [0u64, 1, 65536, 65537, 199999, 200000, 200001] {
+            match shelf.read(path, most) {
+                Ok(bytes) => {
+                    let end = text.len().min(most as usize);
+                    assert!(rt;
+                        bytes.as_slice() == &text.as_slice()[..end],
+                        "the first {most} bytes"
+                    );
+                }
+                Err(_) => panic!(rt; "no first {most} bytes"),
+            }
+        }
+        assert_eq!(rt; shelf.faults, 0);
+        fs::remove_file(&rt, path)?;
+        for (faults, name) in [(1, path), (2, ".")] {
+            let result = shelf.read(name, 9);
+            assert!(rt;
+                matches!(result, Err(ShelfError::Failed)),
+                "{name} is no file"
+            );
+            assert_eq!(rt; shelf.faults, faults);
+        }
+        Ok(())
     }
 }

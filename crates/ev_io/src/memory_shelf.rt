@@ -131,3 +131,51 @@ impl Shelf for MemShelf {
         }
     }
 }
+
+#[cfg(test)]
+mod tests {
+    use super::*;
+    use std::test::Fail;
+
+    fn file(alloc: Global, name: &str, text: &str) -> Result<File, AllocError> {
+        Ok(File {
+            name: Text::from_str(alloc, name)?,
+            bytes: Bytes::from_slice(alloc, text.as_bytes())?,
+        })
+    }
+
+    #[test]
+    fn reads_what_is_held(rt: HostRuntime) -> Result<(), Fail> {
+        let mut files = List::new(rt.alloc());
+        for (name, text) in [("a", "1"), ("b", "22"), ("a", "333")] {
+            files.push(file(rt.alloc(), name, text)?)?;
+        }
+        let failing = List::from_slice(rt.alloc(), &[1, 4])?;
+        let mut shelf = MemShelf::new(rt.alloc(), files, failing);
+        let rows = [
+            ("a", 10, Some("1")),
+            ("b", 10, None),
+            ("b", 1, Some("2")),
+            ("c", 10, None),
+            ("a", 10, None),
+            ("b", 0, Some("")),
+        ];
+        for (name, most, due) in rows {
+            match (shelf.read(name, most), due) {
+                (Ok(bytes), Some(text)) => assert_eq!(rt;
+                    bytes.as_slice(),
+                    text.as_bytes(),
+                    "under {name}"
+                ),
+                (Err(ShelfError::Failed), None) => {}
+                _ => panic!(rt; "{most} bytes under {name}"),
+            }
+        }
+        assert_eq!(rt; shelf.calls().len(), rows.len());
+        for (call, (name, _, due)) in shelf.calls().iter().zip(rows) {
+            assert_eq!(rt; call.name.as_str(), name);
+            assert_eq!(rt; call.failed, due.is_none(), "under {name}");
+        }
+        Ok(())
+    }
+}

@@ -125,3 +125,47 @@ impl Sink for MemSink {
         Ok(())
     }
 }
+
+#[cfg(test)]
+mod tests {
+    use super::*;
+    use std::test::Fail;
+
+    #[test]
+    fn takes_up_to_its_room(rt: HostRuntime) -> Result<(), Fail> {
+        let piece = b"[3,2]\n";
+        for room in 0..8u64 {
+            let mut sink = MemSink::new(rt.alloc(), room, List::new(rt.alloc()))?;
+            let result = sink.put(piece);
+            let end = piece.len().min(room as usize);
+            assert_eq!(rt; result.is_ok(), room >= 6, "room for {room}");
+            assert_eq!(rt; sink.taken(), &piece[..end], "room for {room}");
+        }
+        Ok(())
+    }
+
+    #[test]
+    fn fails_where_it_is_told(rt: HostRuntime) -> Result<(), Fail> {
+        let listed = [
+            FailingPut { call: 1, takes: 2 },
+            FailingPut { call: 3, takes: 9 },
+            FailingPut { call: 1, takes: 0 },
+        ];
+        let failing = List::from_slice(rt.alloc(), &listed)?;
+        let mut sink = MemSink::new(rt.alloc(), 9, failing)?;
+        let rows = [
+            ("ab", true, "ab"),
+            ("cde", false, "abcd"),
+            ("", true, "abcd"),
+            ("fg", false, "abcdfg"),
+            ("hijk", false, "abcdfghij"),
+        ];
+        for (piece, well, taken) in rows {
+            let result = sink.put(piece.as_bytes());
+            assert_eq!(rt; result.is_ok(), well, "at {piece}");
+            assert_eq!(rt; sink.taken(), taken.as_bytes(), "at {piece}");
+        }
+        assert_eq!(rt; (sink.puts, sink.handed, sink.faults), (5, 11, 3));
+        Ok(())
+    }
+}
