@@ -1,10 +1,10 @@
 -- Laws of a sink in memory.
-use Rattle.std.proofs.Common.{◌≡◌, ℕ, ◌+◌, ◌-◌, ◌≤◌, ◌<◌, ◌^◌, min, List, [], ◌∷◌, ◌++◌, length, take, find, All, Option, None, Some, is_some, Bool, true, false, cond, ◌||◌, nat_eq, nat_lt, refl, arith, subst, length-append, suc}
+use Rattle.std.proofs.Common.{◌≡◌, ℕ, ◌-◌, ◌≤◌, ◌<◌, ◌^◌, min, List, [], ◌∷◌, length, take, find, All, Option, None, Some, is_some, Bool, true, false, cond, ◌||◌, nat_eq, nat_lt, refl, arith, subst, length-append, suc}
 use Rattle.std.proofs.lemmas.Bool.{eqb-false}
 use Rattle.std.proofs.lemmas.List.{length-take}
 use Rattle.std.proofs.lemmas.Bool.Decides.{nat_tests}
 use Rattle.ev_io.specs.Count.{counted, most_counted}
-use Rattle.ev_io.specs.MemorySink.{SinkState, first_entry, next_failure, part_allowed, part_taken, does_fail, after_put, IsWithin, IsCalm, IsKept}
+use Rattle.ev_io.specs.MemorySink.{SinkState, first_entry, next_failure, part_allowed, part_taken, does_fail, after_put, IsWithin, IsKept}
 use Rattle.ev_io.specs.declared.memory_sink.FailingPut.{FailingPut}
 
 not_same : (a b : ℕ) → b < a → nat_eq a b ≡ false

@@ -1,5 +1,5 @@
 -- What the shelf over files and the sink over a stream tell, and what their steps do to bytes that a reader or a writer tells.
-use Rattle.std.specs.Prelude.{ℕ, ◌≡◌, ◌≤◌, ◌<◌, List, [], ◌++◌, length, take, Option, None, Result, Ok, Err}
+use Rattle.std.specs.Prelude.{ℕ, ◌≡◌, ◌≤◌, List, ◌++◌, length, take, Option, None, Result, Ok, Err}
 use Rattle.std.specs.Io.KnownBytes.{Appends, Consumes, IsAtEnd}
 use Rattle.ev_io.specs.Count.{counted}
 use Rattle.ev_io.specs.Shelf.{ShelfView}

@@ -1,5 +1,5 @@
 -- A shelf in memory: its files, the calls that are to fail and the calls so far, and what the next call is due to give.
-use Rattle.std.specs.Prelude.{ℕ, ◌≡◌, min, List, [], ◌∷◌, ◌++◌, length, take, find, count_by, map, Option, Some, None, option_map, Bool, true, false, if◌then◌else◌, nat_eq, bytes_eq}
+use Rattle.std.specs.Prelude.{ℕ, ◌≡◌, min, List, [], ◌∷◌, ◌++◌, length, take, find, count_by, map, Option, Some, None, option_map, Bool, true, if◌then◌else◌, nat_eq, bytes_eq}
 use Rattle.std.specs.List.{list_any}
 use Rattle.ev_io.specs.Count.{most_counted}
 use Rattle.ev_io.specs.Shelf.{Call, call_of, ShelfView}

@@ -1,5 +1,5 @@
 -- A sink in memory: its room, the puts that are to fail, what it has taken, and what the next put does.
-use Rattle.std.specs.Prelude.{ℕ, ◌≡◌, ◌≤◌, ◌<◌, ◌-◌, ◌||◌, min, List, [], ◌++◌, length, take, find, All, Option, Some, None, Bool, if◌then◌else◌, is_some, nat_eq, nat_lt}
+use Rattle.std.specs.Prelude.{ℕ, ◌≡◌, ◌≤◌, ◌-◌, ◌||◌, min, List, [], ◌++◌, length, take, find, All, Option, Some, None, Bool, if◌then◌else◌, is_some, nat_eq, nat_lt}
 use Rattle.ev_io.specs.Count.{counted, most_counted}
 use Rattle.ev_io.specs.Sink.{SinkView}
 use Rattle.ev_io.specs.declared.memory_sink.FailingPut.{FailingPut}

@@ -215,65 +215,75 @@ mod tests {
     #[test]
     fn puts_to_a_stream(rt: HostRuntime) -> Result<(), Fail> {
         // How many writes go well, whether the writer then takes nothing, whether it flushes;
-        // whether the put is well, what came to the stream, and the count of faults.
+        // what came to the stream, and the count of faults.
         let rows = [
-            (9, false, true, true, "abcde", 0),
-            (3, false, true, true, "abcde", 0),
-            (2, false, true, false, "abcd", 1),
-            (1, true, true, false, "ab", 1),
-            (0, false, true, false, "", 1),
-            (9, false, false, false, "abcde", 1),
+            (9, false, true, "abcde", 0),
+            (3, false, true, "abcde", 0),
+            (2, false, true, "abcd", 1),
+            (1, true, true, "ab", 1),
+            (0, false, true, "", 1),
+            (9, false, false, "abcde", 1),
         ];
-        for (writes_left, is_full, flushes, well, taken, faults) in rows {
+        for (writes_left, is_full, flushes, taken, faults) in rows {
             let mut sink = StreamSink::new(Flaky {
                 taken: Vec::new(rt.alloc()),
                 writes_left,
                 is_full,
                 flushes,
             });
-            let result = sink.put(b"abcde");
-            assert_eq!(rt; result.is_ok(), well, "after {writes_left} writes");
+            let is_ok = sink.put(b"abcde").is_ok();
             assert_eq!(rt;
-                sink.stream.taken.as_slice(),
-                taken.as_bytes(),
+                (is_ok, sink.faults),
+                (faults == 0, faults),
                 "after {writes_left} writes"
             );
-            assert_eq!(rt; sink.faults, faults, "after {writes_left} writes");
+            assert!(rt;
+                sink.stream.taken.as_slice() == taken.as_bytes(),
+                "after {writes_left} writes"
+            );
         }
         Ok(())
+    }
+
+    fn gives<H: Shelf>(shelf: &mut H, name: &str, most: u64, due: &[u8]) -> bool {
+        match shelf.read(name, most) {
+            Ok(bytes) => bytes.as_slice() == due,
+            Err(_) => false,
+        }
+    }
+
+    fn fails<H: Shelf>(shelf: &mut H, name: &str) -> bool {
+        matches!(shelf.read(name, 9), Err(ShelfError::Failed))
+    }
+
+    /// Three blocks and a bit, of which no two neighbours are alike.
+    fn long_text(alloc: Global) -> Result<Vec<u8>, AllocError>
+        ensures { IfOk result (λ text. vec_len text ≡ 200000) }
+    {
+        let mut text = vec![in alloc; 0u8; 200000]?;
+        for (i, byte) in text.iter_mut().enumerate() {
+            *byte = (i % 251) as u8;
+        }
+        Ok(text)
     }
 
     #[test]
     fn reads_a_file(rt: HostRuntime) -> Result<(), Fail> {
         let path = "ev_io_reads_a_file.tmp";
-        let mut text = Vec::new(rt.alloc());
-        for i in 0..200000u32 {
-            text.push((i % 251) as u8)?;
-        }
+        let text = long_text(rt.alloc())?;
         fs::write(&rt, path, text.as_slice())?;
         let mut shelf = FileShelf::new(&rt);
-        for most in [0u64, 1, 65536, 65537, 199999, 200000, 200001] {
-            match shelf.read(path, most) {
-                Ok(bytes) => {
-                    let end = text.len().min(most as usize);
-                    assert!(rt;
-                        bytes.as_slice() == &text.as_slice()[..end],
-                        "the first {most} bytes"
-                    );
-                }
-                Err(_) => panic!(rt; "no first {most} bytes"),
-            }
-        }
-        assert_eq!(rt; shelf.faults, 0);
-        fs::remove_file(&rt, path)?;
-        for (faults, name) in [(1, path), (2, ".")] {
-            let result = shelf.read(name, 9);
+        for most in [0usize, 1, 65536, 65537, 199999, 200000, 200001] {
+            let due = &text[..most.min(200000)];
             assert!(rt;
-                matches!(result, Err(ShelfError::Failed)),
-                "{name} is no file"
+                gives(&mut shelf, path, most as u64, due),
+                "the first {most} bytes"
             );
-            assert_eq!(rt; shelf.faults, faults);
         }
+        fs::remove_file(&rt, path)?;
+        assert!(rt; fails(&mut shelf, path), "a name without a file");
+        assert!(rt; fails(&mut shelf, "."), "a folder");
+        assert_eq!(rt; shelf.faults, 2);
         Ok(())
     }
 }
