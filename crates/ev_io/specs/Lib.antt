@@ -1,3 +1,6 @@
 pub mod Count
+pub mod Edge
+pub mod MemoryShelf
+pub mod MemorySink
 pub mod Shelf
 pub mod Sink
