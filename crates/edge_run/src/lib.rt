@@ -8,6 +8,8 @@ mod modes;
 mod outcome;
 mod reader;
 mod run;
+#[cfg(test)]
+mod tests;
 
 pub use cursor::ReadError;
 pub use outcome::{Chan, Doc, Outcome, QueryRefusal, UsageRule};
