@@ -2,3 +2,4 @@ pub mod Item
 pub mod JsonText
 pub mod Nested
 pub mod Operator
+pub mod Order

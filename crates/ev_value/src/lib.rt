@@ -5,6 +5,7 @@ mod args;
 mod item;
 mod nested;
 mod operator;
+mod order;
 #[cfg(test)]
 mod tests;
 mod text;
@@ -14,6 +15,7 @@ pub use args::{Args, Argument};
 pub use item::{Fault, Item};
 pub use nested::{Field, Nested};
 pub use operator::{Op, OpError, apply_op};
+pub use order::{cmp_val, values_are_ordered};
 pub use sqlite_items::{Boxed, Items as List};
 pub use text::{Bytes, Text};
 pub use value::{ScalarTy, Val, copied_values};
