@@ -1,3 +1,4 @@
+pub mod Divisions
 pub mod JsonTexts
 pub mod Orders
 pub mod Trees

@@ -39,6 +39,7 @@ then_equal Greater p h = cc
 -- values that are equal in the order are the same
 mutual
   unfolding val_cmp parts_cmp
+
   pub same : (v w : Val) → val_cmp v w ≡ Equal → v ≡ w
   same (Int a) (Int b) h = ap Int (int_same a b h)
   same (Str s) (Str t) h = ap Str (text_same s t h)
@@ -53,12 +54,13 @@ mutual
   parts_same end_of-Val (more_of-Val w ws) h = cc
   parts_same (more_of-Val v vs) end_of-Val h = cc
   parts_same (more_of-Val v vs) (more_of-Val w ws) h =
-    let both : (val_cmp v w ≡ Equal) × (parts_cmp vs ws ≡ Equal) = then_equal (val_cmp v w) (parts_cmp vs ws) h in
-    λ i. same v w both.0 i ∷ parts_same vs ws both.1 i
+      let both : (val_cmp v w ≡ Equal) × (parts_cmp vs ws ≡ Equal) = then_equal (val_cmp v w) (parts_cmp vs ws) h in
+      λ i. same v w both.0 i ∷ parts_same vs ws both.1 i
 
 -- a value is equal to itself
 mutual
   unfolding val_cmp parts_cmp
+
   pub itself : (v : Val) → val_cmp v v ≡ Equal
   itself (Int a) = tied_itself int_cmp_total a
   itself (Str s) = tied_itself nat_list_cmp_total s
@@ -80,6 +82,7 @@ then_turned o p Greater p' e f = ap (λ o. ordering_then o p) e
 -- the order turns round with its sides
 mutual
   unfolding val_cmp parts_cmp
+
   turned : (v w : Val) → val_cmp v w ≡ ordering_reverse (val_cmp w v)
   turned (Int a) (Int b) = int_cmp_total.antisymm a b
   turned (Str s) (Str t) = nat_list_cmp_total.antisymm s t
@@ -132,6 +135,7 @@ then_chain uv Greater uw uvs vws uws both left right more h k = cc
 -- less chains
 mutual
   unfolding val_cmp parts_cmp
+
   chain : (u v w : Val) → val_cmp u v ≡ Less → val_cmp v w ≡ Less → val_cmp u w ≡ Less
   chain (Int a) (Int b) (Int c) h k = int_cmp_total.trans a b c h k
   chain (Str r) (Str s) (Str t) h k = nat_list_cmp_total.trans r s t h k
@@ -148,8 +152,8 @@ mutual
   parts_chain (more_of-Val u us) end_of-Val ws h k = cc
   parts_chain (more_of-Val u us) (more_of-Val v vs) end_of-Val h k = cc
   parts_chain (more_of-Val u us) (more_of-Val v vs) (more_of-Val w ws) h k =
-    then_chain (val_cmp u v) (val_cmp v w) (val_cmp u w) (parts_cmp us vs) (parts_cmp vs ws) (parts_cmp us ws)
-    (chain u v w) (λ e. ap (λ x. val_cmp x w) (same u v e)) (λ e. ap (λ x. val_cmp u x) (sym (same v w e))) (parts_chain us vs ws) h k
+      then_chain (val_cmp u v) (val_cmp v w) (val_cmp u w) (parts_cmp us vs) (parts_cmp vs ws) (parts_cmp us ws)
+      (chain u v w) (λ e. ap (λ x. val_cmp x w) (same u v e)) (λ e. ap (λ x. val_cmp u x) (sym (same v w e))) (parts_chain us vs ws) h k
 
 pub val_cmp_total : IsTotalOrder val_cmp
 val_cmp_total = record { antisymm = turned; trans = chain; congr = λ u v w e. ap (λ x. val_cmp x w) (same u v e) }

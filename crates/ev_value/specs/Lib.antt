@@ -1,3 +1,4 @@
+pub mod Division
 pub mod Item
 pub mod JsonText
 pub mod Nested

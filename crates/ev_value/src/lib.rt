@@ -2,6 +2,7 @@
 #![tactic(auto)]
 
 mod args;
+mod division;
 mod item;
 mod nested;
 mod operator;
@@ -12,6 +13,7 @@ mod text;
 mod value;
 
 pub use args::{Args, Argument};
+pub use division::floor_divides;
 pub use item::{Fault, Item};
 pub use nested::{Field, Nested};
 pub use operator::{Op, OpError, apply_op};

@@ -9,8 +9,7 @@ use std::cmp::Ordering;
 /// The law of the order: it is total, and equal values are the same.
 pub fn values_are_ordered()
     ensures { ValuesAreOrdered }
-{
-}
+{}
 
 /// The place of a value's kind among the kinds, as `Val` lists them.
 fn kind_of(value: &Val) -> u8

@@ -1,8 +1,9 @@
 //! Text and bytes that contracts see as lists.
-ghost use Rattle.std.specs.Prelude.{◌≡◌, string_bytes, nat_eq, IfOk};
+ghost use Rattle.std.specs.Prelude.{◌≡◌, ◌++◌, string_bytes, nat_eq, length, IfOk};
 ghost use Rattle.std.specs.Cmp.{partial_equiv_from_equiv, partial_order_from_total, partial_order_from_own_ties};
 ghost use Rattle.std.specs.Cmp.Lexicographic.{pointwise, slice_cmp, nat_list_cmp_total, nat_list_eq_equiv, texts_ties};
 ghost use Rattle.std.specs.Cmp.Rules.{comparing};
+ghost use Rattle.std.specs.Str.{chars};
 ghost use Rattle.std.specs.Ordering.{nat_cmp, as_partial_cmp};
 ghost use Rattle.std.proofs.Common.{rules};
 
@@ -52,11 +53,27 @@ impl Text {
         self.inner.as_str()
     }
 
+    /// How many characters the text has, and not how many bytes.
+    pub fn characters(&self) -> usize
+        ensures { result ≡ length (chars self.now) }
+    {
+        self.as_str().chars().count()
+    }
+
     /// The same text, in memory of its own.
     pub fn copied(&self, alloc: Global) -> Result<Text, AllocError>
         ensures { IfOk result (λ t. t ≡ self.now) }
     {
         Text::from_str(alloc, self.as_str())
+    }
+
+    /// This text with another behind it, in memory of its own.
+    pub fn joined(&self, next: &Text) -> Result<Text, AllocError>
+        ensures { IfOk result (λ t. t ≡ self.now ++ next.now) }
+    {
+        let mut inner = self.inner.clone()?;
+        inner.push_str(next.as_str())?;
+        Ok(Text { inner })
     }
 }
 

@@ -32,12 +32,12 @@ cmp_val-returns-in-Tuple-Tuple t c = c.cmp_vals.ensures ∙ (λ i. slice_cmp val
 
 pub cmp_val-returns-in_default : goal.cmp_val-returns-in_default
 cmp_val-returns-in_default t c = elim c.in_default.branch [
-    cmp_val-in_default-via-in-Int+in_default w ↦ by_kinds c.args.left.now c.args.right.now (Int w.in_default.field-0-0) c.kind_of.result c.kind_of-in_default.result c.cmp-in_default.result c.cmp-in_default.ensures c.kind_of.ensures c.kind_of-in_default.ensures w.in_default.is-0 (int_apart w.in_default.field-0-0 c.args.right.now w.in_default.not-Int-1)
-  |     cmp_val-in_default-via-in-Str+in_default w ↦ by_kinds c.args.left.now c.args.right.now (Str w.in_default.field-0-0) c.kind_of.result c.kind_of-in_default.result c.cmp-in_default.result c.cmp-in_default.ensures c.kind_of.ensures c.kind_of-in_default.ensures w.in_default.is-0 (str_apart w.in_default.field-0-0 c.args.right.now w.in_default.not-Str-1)
-  |     cmp_val-in_default-via-in-Bool+in_default w ↦ by_kinds c.args.left.now c.args.right.now (val.Bool w.in_default.field-0-0) c.kind_of.result c.kind_of-in_default.result c.cmp-in_default.result c.cmp-in_default.ensures c.kind_of.ensures c.kind_of-in_default.ensures w.in_default.is-0 (bool_apart w.in_default.field-0-0 c.args.right.now w.in_default.not-Bool-1)
-  |     cmp_val-in_default-via-in-Id+in_default w ↦ by_kinds c.args.left.now c.args.right.now (Id w.in_default.field-0-0) c.kind_of.result c.kind_of-in_default.result c.cmp-in_default.result c.cmp-in_default.ensures c.kind_of.ensures c.kind_of-in_default.ensures w.in_default.is-0 (id_apart w.in_default.field-0-0 c.args.right.now w.in_default.not-Id-1)
-  |     cmp_val-in_default-via-in-Obj+in_default w ↦ by_kinds c.args.left.now c.args.right.now (Obj w.in_default.field-0-0) c.kind_of.result c.kind_of-in_default.result c.cmp-in_default.result c.cmp-in_default.ensures c.kind_of.ensures c.kind_of-in_default.ensures w.in_default.is-0 (obj_apart w.in_default.field-0-0 c.args.right.now w.in_default.not-Obj-1)
-  |     cmp_val-in_default-via-in-Tuple+in_default w ↦ by_kinds c.args.left.now c.args.right.now (Tuple w.in_default.field-0-0) c.kind_of.result c.kind_of-in_default.result c.cmp-in_default.result c.cmp-in_default.ensures c.kind_of.ensures c.kind_of-in_default.ensures w.in_default.is-0 (tuple_apart w.in_default.field-0-0 c.args.right.now w.in_default.not-Tuple-1)
+  | cmp_val-in_default-via-in-Int+in_default w ↦ by_kinds c.args.left.now c.args.right.now (Int w.in_default.field-0-0) c.kind_of.result c.kind_of-in_default.result c.cmp-in_default.result c.cmp-in_default.ensures c.kind_of.ensures c.kind_of-in_default.ensures w.in_default.is-0 (int_apart w.in_default.field-0-0 c.args.right.now w.in_default.not-Int-1)
+  | cmp_val-in_default-via-in-Str+in_default w ↦ by_kinds c.args.left.now c.args.right.now (Str w.in_default.field-0-0) c.kind_of.result c.kind_of-in_default.result c.cmp-in_default.result c.cmp-in_default.ensures c.kind_of.ensures c.kind_of-in_default.ensures w.in_default.is-0 (str_apart w.in_default.field-0-0 c.args.right.now w.in_default.not-Str-1)
+  | cmp_val-in_default-via-in-Bool+in_default w ↦ by_kinds c.args.left.now c.args.right.now (val.Bool w.in_default.field-0-0) c.kind_of.result c.kind_of-in_default.result c.cmp-in_default.result c.cmp-in_default.ensures c.kind_of.ensures c.kind_of-in_default.ensures w.in_default.is-0 (bool_apart w.in_default.field-0-0 c.args.right.now w.in_default.not-Bool-1)
+  | cmp_val-in_default-via-in-Id+in_default w ↦ by_kinds c.args.left.now c.args.right.now (Id w.in_default.field-0-0) c.kind_of.result c.kind_of-in_default.result c.cmp-in_default.result c.cmp-in_default.ensures c.kind_of.ensures c.kind_of-in_default.ensures w.in_default.is-0 (id_apart w.in_default.field-0-0 c.args.right.now w.in_default.not-Id-1)
+  | cmp_val-in_default-via-in-Obj+in_default w ↦ by_kinds c.args.left.now c.args.right.now (Obj w.in_default.field-0-0) c.kind_of.result c.kind_of-in_default.result c.cmp-in_default.result c.cmp-in_default.ensures c.kind_of.ensures c.kind_of-in_default.ensures w.in_default.is-0 (obj_apart w.in_default.field-0-0 c.args.right.now w.in_default.not-Obj-1)
+  | cmp_val-in_default-via-in-Tuple+in_default w ↦ by_kinds c.args.left.now c.args.right.now (Tuple w.in_default.field-0-0) c.kind_of.result c.kind_of-in_default.result c.cmp-in_default.result c.cmp-in_default.ensures c.kind_of.ensures c.kind_of-in_default.ensures w.in_default.is-0 (tuple_apart w.in_default.field-0-0 c.args.right.now w.in_default.not-Tuple-1)
 ]
 
 pub cmp_vals-returns-then-left-right : goal.cmp_vals-returns-then-left-right
