@@ -1,4 +1,5 @@
 pub mod Divisions
+pub mod Numbers
 pub mod JsonTexts
 pub mod Orders
 pub mod Trees

@@ -1,3 +1,4 @@
+pub mod Casts
 pub mod Division
 pub mod Item
 pub mod JsonText

@@ -2,6 +2,7 @@
 #![tactic(auto)]
 
 mod args;
+mod casts;
 mod division;
 mod item;
 mod nested;
@@ -13,6 +14,7 @@ mod text;
 mod value;
 
 pub use args::{Args, Argument};
+pub use casts::cast;
 pub use division::floor_divides;
 pub use item::{Fault, Item};
 pub use nested::{Field, Nested};

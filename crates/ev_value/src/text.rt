@@ -11,6 +11,7 @@ use sqlite_items::Items;
 use std::alloc::{AllocError, Global};
 use std::cmp::Ordering;
 use std::marker::Model;
+use uuid::Uuid;
 
 /// Bytes of any kind, as a document or an answer. Contracts see the list of them.
 pub type Bytes = Items<u8>;
@@ -33,6 +34,8 @@ impl Model for Text {
 }
 
 impl Text {
+    ghost use Rattle.ev_value.specs.JsonText.{id_text};
+
     pub fn new(inner: String) -> Text
         ensures { result ≡ string_bytes inner }
     {
@@ -45,6 +48,15 @@ impl Text {
         Ok(Text {
             inner: String::from_str(alloc, text)?,
         })
+    }
+
+    /// The text of a uuid in lower case with hyphens (RFC 9562, section 4).
+    pub fn of_id(alloc: Global, id: u128) -> Result<Text, AllocError>
+        ensures { IfOk result (λ t. t ≡ id_text id) }
+    {
+        let mut buffer = [0u8; 36];
+        let text = Uuid::from_u128(id).hyphenated().encode_lower(&mut buffer);
+        Text::from_str(alloc, text)
     }
 
     pub fn as_str(&self) -> &str
