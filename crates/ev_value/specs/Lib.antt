@@ -5,3 +5,4 @@ pub mod JsonText
 pub mod Nested
 pub mod Operator
 pub mod Order
+pub mod Stands
