@@ -1,1 +1,7 @@
+pub mod Divisions
+pub mod Numbers
+pub mod Items
 pub mod JsonTexts
+pub mod Orders
+pub mod Standing
+pub mod Trees

@@ -56,3 +56,13 @@ only_faults (e ∷ more) = item.Fault e ∷ only_faults more
 -- what f makes of all the values together; where the list has faults, these faults alone
 abbrev pub collect : {A B : Type 0} → (List A → List (Item B)) → List (Item A) → List (Item B)
 collect f xs = if has_fault xs then only_faults (faults xs) else f (values xs)
+
+-- what f makes of each value of two lists; where the first list has faults, those of the second are told too
+abbrev pub both : {A B C : Type 0} → List (Item A) → List (Item B) → (A → B → List (Item C)) → List (Item C)
+both xs ys f = bind xs (λ a. bind ys (f a)) ++ (if has_fault xs then only_faults (faults ys) else [])
+
+-- what P says of each value of a list
+abbrev pub EachValue : {A : Type 0} → (A → Type 0) → List (Item A) → Type 0
+EachValue P [] = Unit {0}
+EachValue P (item.Value a ∷ xs) = P a × EachValue P xs
+EachValue P (item.Fault e ∷ xs) = EachValue P xs

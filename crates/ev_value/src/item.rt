@@ -1,4 +1,6 @@
 //! Items: what an expression gives, one after the other.
+ghost use Rattle.std.specs.Prelude.{◌≡◌};
+ghost use Rattle.ev_value.specs.Item.{fault_number};
 
 use crate::value::Val;
 
@@ -18,6 +20,23 @@ pub enum Fault {
     AssertDistinct,
     /// An offset or a limit below zero.
     NegativeLimit,
+}
+
+impl Fault {
+    /// The number that the fault is told by.
+    pub fn number(self) -> u8
+        ensures { result ≡ fault_number self }
+    {
+        match self {
+            Fault::IntOverflow => 1,
+            Fault::DivisionByZero => 2,
+            Fault::CastText => 3,
+            Fault::AssertSingle => 4,
+            Fault::AssertExists => 5,
+            Fault::AssertDistinct => 6,
+            Fault::NegativeLimit => 7,
+        }
+    }
 }
 
 /// A value, or the fault that stands in its place.
