@@ -1,10 +1,15 @@
 -- What an expression means: the list of its items, values with faults where a value would stand.
 use Rattle.std.specs.Prelude.{List, [], ◌∷◌, ◌++◌}
 use Rattle.ev_value.specs.Item.{bind, one}
-use Rattle.ev_value.specs.Operator.{sum_item}
+use Rattle.ev_value.specs.Operator.{item_of_op}
+use Rattle.ev_value.specs.declared.operator.Op.TheVariants as op
 use Rattle.ev_value.specs.declared.item.Item.{Item}
 use Rattle.ev_value.specs.declared.value.Val.{Val}
 use Rattle.core_ir.specs.declared.expr.Expr.{Expr, Literal, Add', Set', Row_of-Expr, end_of-Expr, more_of-Expr}
+
+-- the sum of two values, or the fault that stands in its place
+abbrev pub sum_item : Val → Val → Item Val
+sum_item x y = item_of_op op.Add (x ∷ y ∷ [])
 
 unfoldable mutual
   -- A literal is its one value. A sum goes over the items of its left operand, and for each over those of its right one:
@@ -13,7 +18,7 @@ unfoldable mutual
   pub items : Expr → List (Item Val)
   items (Literal v) = one v
   items (Add' _ (more_of-Expr left end_of-Expr) _ (more_of-Expr right end_of-Expr)) =
-      bind (items left) (λ x. bind (items right) (λ y. sum_item (x ∷ y ∷ []) ∷ []))
+      bind (items left) (λ x. bind (items right) (λ y. sum_item x y ∷ []))
   items (Set' _ elements) = items_of_row elements
 
   pub items_of_row : {m : _} → Row_of-Expr m → List (Item Val)

@@ -1,9 +1,8 @@
 //! The items of an expression, worked out as its meaning says.
 ghost use Rattle.std.specs.Prelude.{◌≡◌, ◌∷◌, [], ◌++◌, IfOk, OnOk};
-ghost use Rattle.core_ir.specs.Meaning.{items, items_of_all};
+ghost use Rattle.core_ir.specs.Meaning.{sum_item, items, items_of_all};
 ghost use Rattle.edge_run.specs.Evaluate.{sums, sums_with};
 ghost use Rattle.ev_value.specs.Item.{one as one_of};
-ghost use Rattle.ev_value.specs.Operator.{sum_item};
 
 use core_ir::Expr;
 use ev_value::{Item, List, Op, OpError, Val, apply_op};
@@ -11,7 +10,7 @@ use std::alloc::{AllocError, Global};
 
 // The sum of two values, or the fault that stands in its place.
 fn sum(alloc: Global, left: &Val, right: &Val) -> Result<Item, AllocError>
-    ensures { IfOk result (λ x. x ≡ sum_item (left.now ∷ right.now ∷ [])) }
+    ensures { IfOk result (λ x. x ≡ sum_item left.now right.now) }
 {
     let operands = [left.copied(alloc)?, right.copied(alloc)?];
     match apply_op(Op::Add, &operands) {
