@@ -1,9 +1,9 @@
 //! From nested forms to the JSON text of an answer.
 #![tactic(auto)]
 
-mod json;
 mod print;
 #[cfg(test)]
 mod tests;
+mod values;
 
 pub use print::text;
