@@ -190,6 +190,20 @@ fn values_are_ordered(rt: HostRuntime) -> Result<(), Fail> {
 /// Texts, each less than the next by its bytes.
 static RISING_TEXTS: [(&str, &str); 4] = [("", "B"), ("B", "a"), ("a", "ab"), ("ab", "é")];
 
+fn least<'a, T: Ord>(left: &'a T, right: &'a T) -> &'a T {
+    if right < left { right } else { left }
+}
+
+#[test]
+fn texts_are_compared_as_keys(rt: HostRuntime) -> Result<(), Fail> {
+    let alloc = rt.alloc();
+    let upper = Text::from_str(alloc, "Z")?;
+    let lower = Text::from_str(alloc, "a")?;
+    assert!(rt; least(&lower, &upper).as_str() == "Z");
+    assert!(rt; upper != lower);
+    Ok(())
+}
+
 #[test]
 fn texts_are_ordered_by_their_bytes(rt: HostRuntime) -> Result<(), Fail> {
     let alloc = rt.alloc();
