@@ -6,7 +6,7 @@ use Rattle.std.proofs.lemmas.Nat.{div-mul-add, mod-mul-add}
 use Rattle.std.proofs.lemmas.Int.{ints}
 use Rattle.std.specs.Int.{w64, w128, int_rem_euclid}
 use Rattle.std.specs.Prelude.{FitsSigned, unsigned_abs}
-use Rattle.ev_value.specs.Division.{over, left, floor_quotient, floor_rest, IsShortOf, IsFloorDivision, FloorDivides}
+use Rattle.ev_value.specs.Division.{over, left, floor_quotient, floor_rest, IsFloorDivision, FloorDivides}
 
 pub left_below : (a : ℤ) (n : ℕ) → 0 < n → left a n < n
 left_below (pos a) n h = omega arith

@@ -1,4 +1,5 @@
 pub mod Divisions
+pub mod Names
 pub mod Numbers
 pub mod Items
 pub mod JsonTexts

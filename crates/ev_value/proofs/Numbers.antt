@@ -1,12 +1,11 @@
 -- What `parse` of the library reads as a number of 64 bits is what a cast reads.
-use Rattle.std.proofs.Common.{◌≡◌, ◌⊎◌, inl, inr, ℕ, zero, suc, ◌+◌, ◌-◌, ◌*◌, ◌==◌, ◌<◌, ◌^◌, ◌&&◌, nat_lt, nat_le, Bool, true, false, cond, List, [], ◌∷◌, length, drop, get_or, ℤ, pos, negsuc, neg_ℤ, Option, Some, None, option_and_then, refl, sym, ap, ◌∙◌, subst, arith, true≢false}
+use Rattle.std.proofs.Common.{◌≡◌, ◌⊎◌, inl, inr, ℕ, ◌+◌, ◌-◌, ◌*◌, ◌==◌, ◌<◌, ◌&&◌, Bool, true, false, cond, List, [], ◌∷◌, drop, ℤ, pos, negsuc, neg_ℤ, Some, None, option_and_then, refl, sym, ap, ◌∙◌, arith, true≢false}
 use Rattle.std.proofs.lemmas.Bool.Decides.{nat_tests}
 use Rattle.std.specs.Prelude.{FitsSigned, slice_index}
 use Rattle.std.specs.Int.{w64}
 use Rattle.std.specs.List.{list_all}
 use Rattle.std.specs.Char.{digit_value}
 use Rattle.std.specs.Str.Parse.{AllDigits, IsNumeral, digits_value_after, digits_value, without_leading_sign, starts_with_minus, signed_digits_value}
-use Rattle.std.proofs.lemmas.Int.{ints}
 use Rattle.ev_value.specs.Casts.{is_digit, number_after, digits_written, number_written, int64_in, read_item}
 use Rattle.ev_value.specs.Operator.{is_int64}
 use Rattle.ev_value.specs.declared.item.Fault.TheVariants as fault

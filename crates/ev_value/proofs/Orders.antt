@@ -1,5 +1,5 @@
 -- The order of values is total, and equal there is equal.
-use Rattle.std.proofs.Common.{◌≡◌, ◌↔◌, ℕ, ℤ, ◌≤◌, ◌<◌, ◌<ℤ◌, ◌&&◌, nat_eq, Bool, true, false, List, [], ◌∷◌, ◌+◌, length, drop, zero, suc, Ordering, Less, Equal, Greater, nat_cmp, refl, sym, ap, ◌∙◌, subst, arith, rules}
+use Rattle.std.proofs.Common.{◌≡◌, ℕ, ℤ, ◌≤◌, ◌<◌, ◌<ℤ◌, Bool, true, false, List, [], ◌∷◌, length, drop, zero, suc, Ordering, Less, Equal, Greater, nat_cmp, refl, sym, ap, ◌∙◌, subst, arith}
 use Rattle.std.proofs.lemmas.Bool.Decides.{nat_tests}
 use Rattle.std.specs.Cmp.{IsTotalOrder, nat_cmp_total, int_cmp_total, bool_cmp_total}
 use Rattle.std.specs.Cmp.Lexicographic.{slice_cmp, nat_list_cmp_total}
@@ -22,7 +22,7 @@ nat_same m n h = subst (λ o. MatchOrdering o (m < n) (m ≡ n) (n < m)) h (rank
 int_same : (a b : ℤ) → int_cmp a b ≡ Equal → a ≡ b
 int_same a b h = subst (λ o. MatchOrdering o (a <ℤ b) (a ≡ b) (b <ℤ a)) h (int_ranked a b (int_cmp a b) refl)
 
-text_same : (s t : List ℕ) → slice_cmp nat_cmp s t ≡ Equal → s ≡ t
+pub text_same : (s t : List ℕ) → slice_cmp nat_cmp s t ≡ Equal → s ≡ t
 text_same s t h = (bytes_eq-Decides s t).0 (sym (is_eq-slice_cmp s t) ∙ ap is_eq h)
 
 bool_same : (a b : Bool) → bool_cmp a b ≡ Equal → a ≡ b

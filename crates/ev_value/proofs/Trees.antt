@@ -1,6 +1,6 @@
 -- A tuple as cases see it is the tuple of its components.
-use Rattle.std.proofs.Common.{◌≡◌, List, [], ◌∷◌, refl, sym, ap, ◌∙◌}
-use Rattle.ev_value.specs.declared.value.Val.{Val, Tuple', Row_of-Val, end_of-Val, more_of-Val, roll-Val, out-Val, items-the_row-Val, roll-out-Val}
+use Rattle.std.proofs.Common.{◌≡◌, List, sym, ap, ◌∙◌}
+use Rattle.ev_value.specs.declared.value.Val.{Val, Tuple', Row_of-Val, roll-Val, out-Val, items-the_row-Val, roll-out-Val}
 use Rattle.ev_value.specs.declared.value.Val.TheVariants.{Tuple, rolls-Tuple}
 use Rattle.ev_value.specs.declared.value.Val.TheOpen as open_val
 use Rattle.ev_value.specs.declared.value.Val.TheBlock as block

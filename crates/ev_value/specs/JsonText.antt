@@ -1,12 +1,14 @@
 -- The JSON text of values and nested forms: compact (RFC 8259), in UTF-8.
-use Rattle.std.specs.Prelude.{ℕ, ◌/◌, ◌%◌, ◌==◌, nat_lt, if◌then◌else◌, List, [], ◌∷◌, ◌++◌, map, flat_map, fold, codes}
+use Rattle.std.specs.Prelude.{◌≡◌, ℕ, ◌/◌, ◌%◌, ◌==◌, nat_lt, if◌then◌else◌, List, [], ◌∷◌, ◌++◌, map, flat_map, fold, codes, Option, Some, None}
 use Rattle.std.specs.BTreeMap.{insert_entry}
 use Rattle.std.specs.Char.{digit_char}
 use Rattle.std.specs.Cmp.Lexicographic.{slice_cmp}
 use Rattle.std.specs.Fmt.{signed_decimal}
 use Rattle.std.specs.Int.{w128, to_be_bytes}
 use Rattle.std.specs.List.{join_with_byte}
+use Rattle.std.specs.declared.cmp.Ordering.TheVariants.{Less}
 use Rattle.std.specs.Ordering.{nat_cmp}
+use Rattle.std.specs.Str.{bytes_eq}
 use Rattle.uuid.specs.Text.{hyphenated_text, lower}
 use Rattle.ev_value.specs.declared.nested.Field.{Field}
 use Rattle.ev_value.specs.declared.nested.Nested.{Nested, fold-Nested}
@@ -46,6 +48,32 @@ member_text m = json_string m.0 ++ codes ":" ++ m.1
 -- the members in the byte order of their names; of members with one name the last counts
 abbrev pub by_name : List Member → List Member
 by_name = fold (λ done m. insert_entry (slice_cmp nat_cmp) done m.0 m.1) []
+
+-- each name is less by its bytes than the next
+abbrev pub NamesRise : List Member → Type 0
+NamesRise [] = Unit {0}
+NamesRise (m ∷ []) = Unit {0}
+NamesRise (m ∷ n ∷ more) = (slice_cmp nat_cmp m.0 n.0 ≡ Less) × NamesRise (n ∷ more)
+
+-- the text of the first member with a name
+abbrev pub first_named : List ℕ → List Member → Option (List ℕ)
+first_named name [] = None
+first_named name (m ∷ more) = if bytes_eq m.0 name then Some m.1 else first_named name more
+
+-- a text, or another where there is none
+abbrev pub or_text : Option (List ℕ) → Option (List ℕ) → Option (List ℕ)
+or_text (Some t) other = Some t
+or_text None other = other
+
+-- the text of the last member with a name
+abbrev pub last_named : List ℕ → List Member → Option (List ℕ)
+last_named name [] = None
+last_named name (m ∷ more) = or_text (last_named name more) (if bytes_eq m.0 name then Some m.1 else None)
+
+-- an object's names rise, so each stands once, and each has the last text that it was given
+pub record NamesAreOrdered : Type 0 where
+  pub rise : (ms : List Member) → NamesRise (by_name ms)
+  pub keep : (name : List ℕ) (ms : List Member) → first_named name (by_name ms) ≡ last_named name ms
 
 -- members between braces, with commas
 abbrev pub json_object : List Member → List ℕ

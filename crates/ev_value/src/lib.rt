@@ -19,7 +19,7 @@ pub use casts::cast;
 pub use division::floor_divides;
 pub use item::{Fault, Item};
 pub use laws::{bind_is_lawful, standing_is_lawful};
-pub use nested::{Field, Nested};
+pub use nested::{Field, Nested, names_are_ordered};
 pub use operator::{Op, OpError, apply_op};
 pub use order::{cmp_val, values_are_ordered};
 pub use sqlite_items::{Boxed, Items as List};

@@ -4,6 +4,6 @@
 mod print;
 #[cfg(test)]
 mod tests;
-mod value;
+mod values;
 
 pub use print::text;

@@ -2,7 +2,7 @@
 ghost use Rattle.std.specs.Prelude.{◌≡◌, IfOk};
 ghost use Rattle.ev_value.specs.JsonText.{json_text};
 
-use crate::value::json_of;
+use crate::values::json_of;
 use ev_value::{Bytes, Nested};
 use std::alloc::{AllocError, Global};
 

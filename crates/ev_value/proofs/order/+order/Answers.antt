@@ -1,5 +1,5 @@
-use Rattle.std.proofs.Common.{rules, ◌≡◌, sym, ap, ◌∙◌, nat_cmp, arith}
-use Rattle.ev_value.specs.Order.{kind, val_cmp}
+use Rattle.std.proofs.Common.{sym, ◌∙◌, nat_cmp, arith}
+use Rattle.ev_value.specs.Order.{val_cmp}
 use Rattle.ev_value.specs.declared.value.Val.TheVariants.{Int, Str, Id, Obj, Tuple}
 use Rattle.ev_value.specs.declared.value.Val.TheVariants as val
 use Rattle.ev_value.proofs.Orders.{tuple_cmp, by_kinds, int_apart, str_apart, bool_apart, id_apart, obj_apart, tuple_apart, ends_less}

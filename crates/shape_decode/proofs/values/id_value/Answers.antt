@@ -3,7 +3,7 @@ use Rattle.uuid.specs.Text.{hyphenated_text, lower}
 use Rattle.std.proofs.Common.{ℕ, ◌≡◌, List, sym, ap, ◌∙◌}
 use Rattle.ev_value.specs.JsonText.{json_string, id_text}
 use Rattle.shape_decode.proofs.Printing.{if_printed}
-use Rattle.shape_decode.proofs.value.id_value.Goals as goal
+use Rattle.shape_decode.proofs.values.id_value.Goals as goal
 
 pub returns : goal.returns
 returns c =

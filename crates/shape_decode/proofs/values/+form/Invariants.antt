@@ -2,7 +2,7 @@
 use Rattle.std.proofs.Common.{map, take}
 use Rattle.ev_value.specs.JsonText.{json_text, field_text}
 use Rattle.shape_decode.specs.Printed.{ArePrinted, HasMembers}
-use Rattle.shape_decode.proofs.value.+form.Given as goal
+use Rattle.shape_decode.proofs.values.+form.Given as goal
 
 abbrev pub invariant-array_of-loop-form : goal.invariant-array_of-loop-form
 invariant-array_of-loop-form l = ArePrinted l.values.items (map json_text (take l.form-index l.forms))

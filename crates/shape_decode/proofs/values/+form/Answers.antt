@@ -3,7 +3,7 @@ use Rattle.ev_value.specs.JsonText.{json_text, field_text, json_array, json_obje
 use Rattle.ev_value.proofs.JsonTexts.{null_text, scalar_text, array_text, object_text}
 use Rattle.shape_decode.specs.Printed.{IsPrinted, ArePrinted}
 use Rattle.shape_decode.proofs.Printing.{printed_null, printed_array, printed_object, printed_more, if_printed}
-use Rattle.shape_decode.proofs.value.+form.Goals as goal
+use Rattle.shape_decode.proofs.values.+form.Goals as goal
 
 pub json_of-returns-in-Null : goal.json_of-returns-in-Null
 json_of-returns-in-Null t c = subst (IsPrinted _) (sym (ap json_text c.in-Null.is ∙ null_text)) printed_null

@@ -5,7 +5,7 @@ use Rattle.ev_value.specs.JsonText.{value_text, json_string, json_array}
 use Rattle.ev_value.proofs.JsonTexts.{int_text, str_text, bool_text, uuid_text, obj_text, tuple_text}
 use Rattle.shape_decode.specs.Printed.{IsPrinted, ArePrinted}
 use Rattle.shape_decode.proofs.Printing.{printed_number, printed_bool, printed_array, printed_more, if_printed}
-use Rattle.shape_decode.proofs.value.+value.Goals as goal
+use Rattle.shape_decode.proofs.values.+value.Goals as goal
 
 pub value_of-returns-in-Int : goal.value_of-returns-in-Int
 value_of-returns-in-Int t c =
