@@ -1,0 +1,85 @@
+-- Which lists of tokens spell which values, and how such languages are put together.
+use Rattle.std.specs.Prelude.{◌≡◌, ℕ, zero, suc, Bool, true, false, List, [], ◌∷◌, ◌++◌, Option, Some, ◌⊎◌}
+
+-- A language says which tokens spell which value.
+abbrev pub Lang : Type 0 → Type 0 → Type 1
+Lang T A = List T → A → Type 0
+
+-- No token at all spells the value.
+abbrev pub Empty : {T A : Type 0} → A → Lang T A
+Empty a ts b = (ts ≡ []) × (b ≡ a)
+
+-- Nothing is spelled.
+abbrev pub Never : {T A : Type 0} → Lang T A
+Never ts a = ⊥
+
+-- One token that stands for a value.
+abbrev pub One : {T A : Type 0} → (T → Option A) → Lang T A
+One f ts a = (t : _) × (ts ≡ t ∷ []) × (f t ≡ Some a)
+
+-- One token that stands for a value, where it passes no limit.
+abbrev pub OneWithin : {T A : Type 0} → Bool → (T → Option A) → Lang T A
+OneWithin over f ts a = (over ≡ false) × One f ts a
+
+-- First a value of L, and behind it what M says of that value.
+pub record Then {T A B : Type 0} (L : Lang T A) (M : A → Lang T B) (ts : List T) (b : B) : Type 0 where
+  pub front : List T
+  pub back : List T
+  pub value : A
+  pub parts : ts ≡ front ++ back
+  pub first : L front value
+  pub second : M value back b
+
+infixl 10 ◌>>=◌
+abbrev pub ◌>>=◌ : {T A B : Type 0} → Lang T A → (A → Lang T B) → Lang T B
+L >>= M = Then L M
+
+infixl 10 ◌>>◌
+abbrev pub ◌>>◌ : {T A B : Type 0} → Lang T A → Lang T B → Lang T B
+L >> M = Then L (λ _. M)
+
+-- One of two.
+abbrev pub Either : {T A : Type 0} → Lang T A → Lang T A → Lang T A
+Either L M ts a = L ts a ⊎ M ts a
+
+-- So many steps, each from the value so far.
+abbrev pub Links : {T A : Type 0} → (A → Lang T A) → ℕ → A → Lang T A
+Links S zero a ts e = Empty a ts e
+Links S (suc n) a ts e = Then (S a) (Links S n) ts e
+
+-- Any number of steps, each from the value so far: what is grouped from the left.
+abbrev pub Chain : {T A : Type 0} → (A → Lang T A) → A → Lang T A
+Chain S a ts e = (n : ℕ) × Links S n a ts e
+
+-- What a step of a loop gives: a value to go on from, or the loop's own.
+pub data Step (A R : Type 0) : Type 0 where
+  More : A → Step A R
+  Done : R → Step A R
+
+-- What follows a step: the rest of the loop, or nothing.
+abbrev pub Onward : {T A R : Type 0} → (A → Lang T R) → Step A R → Lang T R
+Onward L (More a) = L a
+Onward L (Done r) = Empty r
+
+-- So many steps, of which only the last says that the loop is over.
+abbrev pub Turns : {T A R : Type 0} → (A → Lang T (Step A R)) → ℕ → A → Lang T R
+Turns S zero a ts r = ⊥
+Turns S (suc n) a ts r = Then (S a) (Onward (Turns S n)) ts r
+
+-- Steps, of which only the last says that the loop is over.
+abbrev pub Loop : {T A R : Type 0} → (A → Lang T (Step A R)) → A → Lang T R
+Loop S a ts r = (n : ℕ) × Turns S n a ts r
+
+-- The list with one value more at its end.
+abbrev pub added : {A : Type 0} → List A → A → List A
+added all a = all ++ a ∷ []
+
+-- Behind an item of a list: a comma and an item, a comma that ends the list, or nothing.
+abbrev pub Item : {T A : Type 0} → (List A → Bool) → (T → Option (Unit {0})) → Lang T A → List A → Lang T (Step (List A) (List A))
+Item over comma L all = Either (OneWithin (over all) comma >> Either (do item ← L; Empty (More (added all item))) (Empty (Done all))) (Empty (Done all))
+
+-- Items with commas between them, and maybe a last comma. A comma passes a limit where `over` says so of the items before it.
+abbrev pub Items : {T A : Type 0} → (List A → Bool) → (T → Option (Unit {0})) → Lang T A → Lang T (List A)
+Items over comma L = do
+  first ← L
+  Loop (Item over comma L) (first ∷ [])
