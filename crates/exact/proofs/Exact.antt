@@ -56,7 +56,7 @@ pub record IsExact {T A : Type 0} (L F : Lang T A) (P Q : Reader T A) (go : A �
   -- the wider limit changes no answer but the limit's own
   pub extends : (ts : List T) → Extends (P ts) (Q ts)
 
-keeps_longer : {T : Type 0} (rule : Rule) (rest more s : List T) → Keeps rule rest more → Keeps rule rest (more ++ s)
+pub keeps_longer : {T : Type 0} (rule : Rule) (rest more s : List T) → Keeps rule rest more → Keeps rule rest (more ++ s)
 keeps_longer Unexpected rest more s h = tt
 keeps_longer TooDeep rest more s h = same_token_longer rest more s h
 
