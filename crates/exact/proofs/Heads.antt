@@ -64,6 +64,14 @@ Apart one other = (t : _) → one t ≡ true → other t ≡ false
 abbrev pub Covers : {T : Type 0} → (T → Bool) → (T → Bool) → Type 0
 Covers one other = (t : _) → one t ≡ false → other t ≡ false
 
+-- No token.
+abbrev pub never : {T : Type 0} → T → Bool
+never t = false
+
+pub heads_never : {T : Type 0} (r : List T) → heads never r ≡ false
+heads_never [] = refl
+heads_never (t ∷ r) = refl
+
 pub begins_long : {T : Type 0} (first : T → Bool) (x : List T) → BeginsIn first x → 0 < length x
 begins_long first [] h = absurd h
 begins_long first (t ∷ x) h = omega arith
@@ -123,6 +131,9 @@ begins_loop {T} {A} {R} {first} {S} s a = record { at = λ x r l. turns l.0 x r 
 
 pub avoids_begins : {T A : Type 0} {first set : T → Bool} {L : Lang T A} {go : A → T → Bool} → Begins first L → Apart first set → Avoids set L go
 avoids_begins {T} {A} {first} {set} {L} {go} l none = record { at = λ y a rest h stop. heads_apart first set none y rest (l.at y a h) }
+
+pub avoids_none : {T A : Type 0} {L : Lang T A} {go : A → T → Bool} → Avoids never L go
+avoids_none = record { at = λ y a rest h stop. heads_never (y ++ rest) }
 
 pub avoids_empty : {T A : Type 0} {set : T → Bool} {go : A → T → Bool} (v : A) → Covers (go v) set → Avoids set (Empty v) go
 avoids_empty {T} {A} {set} {go} v sub = record { at = λ y a rest m stop. rw m.0 (heads_less (go v) set sub rest (subst (λ (z : A). heads (go z) rest ≡ false) m.1 stop)) }

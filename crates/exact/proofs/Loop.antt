@@ -219,7 +219,7 @@ module _ {T A R : Type 0} (S Z : A → Lang T (Step A R)) (last : A → Reader T
 module _ {T A : Type 0} (S Z : A → Lang T A) (step step' : A → Reader T A) (first : T → Bool) (go goS : A → T → Bool)
     (p : (a : A) → IsExact (S a) (Z a) (step a) (step' a) goS)
     (begins : (a : A) → Begins first (S a))
-    (items : (a b : A) → Apart first (goS b))
+    (items : (b : A) → Apart first (goS b))
     (no_first : (a : A) → Covers (go a) first)
     (no_step : (a b : A) → Covers (go a) (goS b)) where
   Next : (A → Lang T A) → A → Lang T (Step A A)
@@ -300,7 +300,7 @@ module _ {T A : Type 0} (S Z : A → Lang T A) (step step' : A → Reader T A) (
       links_apart zero b c y e rest l stop = rw l.0 (heads_less (go e) (goS b) (no_step e b) rest stop)
       links_apart (suc n) b c y e rest l stop =
           ap (λ (z : List T). heads (goS b) (z ++ rest)) l.parts ∙ ap (λ (z : List T). heads (goS b) z) (append_assoc l.front l.back rest)
-          ∙ heads_apart first (goS b) (items c b) l.front (l.back ++ rest) ((begins c).at l.front l.value l.first)
+          ∙ heads_apart first (goS b) (items b) l.front (l.back ++ rest) ((begins c).at l.front l.value l.first)
 
       more_apart : (b : A) → Avoids (goS b) (Loop (Next S) b) go
       more_apart b = record { at = λ y e rest l stop. let c = from_loop S l.0 b y e l.1 in links_apart c.0 b b y e rest c.1 stop }
