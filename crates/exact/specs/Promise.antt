@@ -1,5 +1,5 @@
 -- What is promised of a reader: what it finds is spelled, only that is found, and a refusal names the token.
-use Rattle.std.specs.Prelude.{◌≡◌, ◌≤◌, ◌<◌, ℕ, suc, Bool, false, List, length, take, drop}
+use Rattle.std.specs.Prelude.{◌≡◌, ◌≤◌, ◌<◌, ℕ, suc, Bool, false, List, length, take}
 use Rattle.exact.specs.declared.rule.Rule.{Rule}
 use Rattle.exact.specs.declared.rule.Rule.TheVariants.{Unexpected, TooDeep}
 use Rattle.exact.specs.Language.{Lang}
@@ -21,6 +21,10 @@ IsAlive L ts k = (s : List _) × (x : _) × L s x × (take k s ≡ take k ts)
 abbrev pub IsRefused : {T A : Type 0} → Lang T A → Lang T A → List T → Rule → ℕ → Type 0
 IsRefused L G ts Unexpected k = (k ≤ length ts) × IsDead G ts k × IsAlive G ts k
 IsRefused L G ts TooDeep k = (k ≤ length ts) × IsDead L ts k × IsAliveThrough G ts k
+
+-- The first k tokens spell the value, and no text of the grammar alone, G, agrees with the tokens up to and including number k.
+abbrev pub IsPrefix : {T A : Type 0} → Lang T A → Lang T A → List T → A → ℕ → Type 0
+IsPrefix L G ts x k = (k ≤ length ts) × L (take k ts) x × (k < length ts → IsDead G ts k)
 
 -- What L says of values that are not too high.
 abbrev pub Low : {T A : Type 0} → (A → Bool) → Lang T A → Lang T A
