@@ -4,7 +4,7 @@ use Rattle.std.proofs.Common.{◌≡◌, ℕ, zero, suc, ◌+◌, ◌≤◌, ◌
 use Rattle.std.proofs.lemmas.List.{length-append}
 use Rattle.exact.specs.declared.rule.Rule.{Rule}
 use Rattle.exact.specs.declared.rule.Rule.TheVariants.{Unexpected, TooDeep}
-use Rattle.exact.specs.Language.{Lang, Empty, Never, One, OneWithin, Then, Either, Chain, Step, More, Done, Loop, added, Item, Items}
+use Rattle.exact.specs.Language.{Lang, Empty, Never, One, OneWithin, Then, Either, Chain, Step, More, Done, Loop, Item, Items}
 use Rattle.exact.specs.Reading.{Outcome, Got, Stop, Reader, and_then, ◌>>=◌, ◌>>◌, pure, refuse, heads, one, one_within, choose, chain, onward, loop, inside, item, items}
 use Rattle.exact.proofs.Heads.{Begins, Avoids, Covers, Apart, BeginsIn, begins_one_within, begins_then, never, avoids_none, avoids_empty, avoids_begins, avoids_either, avoids_loop}
 use Rattle.exact.proofs.Exact.{IsExact, Took, Stopped, Keeps, keeps_longer, Inhabited, Extends, pure_is, one_within_is, then_is, choose_is, alike_is, weaken_is}
@@ -187,8 +187,8 @@ exact_loop {T} {A} {R} {shut} {S} {Z} {step} {step'} {go} {inner} last p at_end 
 
 -- ---- items with commas between them, and maybe a last comma
 
-module _ {T A : Type 0} (shut : Bool) (over wide : List A → Bool) (is_comma : T → Bool) (comma : T → Option (Unit {0})) (closes ends : T → Bool) (L F : Lang T A) (P Q : Reader T A)
-    (free : (all : List A) → wide all ≡ false)
+module _ {T A B : Type 0} (shut : Bool) (over wide : B → Bool) (is_comma : T → Bool) (comma : T → Option (Unit {0})) (closes ends : T → Bool) (L F : Lang T A) (P Q : Reader T A) (start : A → B) (add : B → A → B)
+    (free : (all : B) → wide all ≡ false)
     (t : T) (known : comma t ≡ Some tt)
     (p : IsExactUnless shut L F P Q (λ _. ends))
     (begins : Begins (inside closes) L)
@@ -197,27 +197,27 @@ module _ {T A : Type 0} (shut : Bool) (over wide : List A → Bool) (is_comma : 
     (apart : Apart is_comma ends)
     (closed : Covers (inside closes) ends) where
   -- with which a step may go on
-  on : Step (List A) (List A) → T → Bool
+  on : Step B B → T → Bool
   on (More all) = ends
   on (Done all) = inside closes
 
-  item_is : (all : List A) → IsExactUnless shut (Item over comma L all) (Item wide comma F all) (item over is_comma comma closes P all) (item wide is_comma comma closes Q all) on
+  item_is : (all : B) → IsExactUnless shut (Item over comma L add all) (Item wide comma F add all) (item over is_comma comma closes P add all) (item wide is_comma comma closes Q add all) on
   unfolding on
   item_is all =
       exact_choose {first = is_comma} {go = on}
-      (exact_behind comma t tt known (free all) (λ _. exact_choose {first = inside closes} {go = on} (exact_map {go = on} (λ a. More (added all a)) p) (exact_pure (Done all)) (begins_then begins) (avoids_empty (Done all) (λ t h. h))))
+      (exact_behind comma t tt known (free all) (λ _. exact_choose {first = inside closes} {go = on} (exact_map {go = on} (λ a. More (add all a)) p) (exact_pure (Done all)) (begins_then begins) (avoids_empty (Done all) (λ t h. h))))
       (exact_pure (Done all))
       (begins_then (begins_one_within (over all) comma commas))
       (avoids_empty (Done all) bare)
 
-  step_avoids : (all : List A) → Avoids ends (Item over comma L all) (λ _. ends)
+  step_avoids : (all : B) → Avoids ends (Item over comma L add all) (λ _. ends)
   step_avoids all = avoids_either (avoids_begins (begins_then (begins_one_within (over all) comma commas)) apart) (avoids_empty (Done all) (λ t h. h))
 
-  item_long : (all : List A) (x : List T) (more : List A) → Item over comma L all x (More more) → 0 < length x
+  item_long : (all : B) (x : List T) (more : B) → Item over comma L add all x (More more) → 0 < length x
   item_long all x more (inl l) = omega (arith, ap length l.parts, length-append l.front l.back, ap length l.first.1.1)
   item_long all x more (inr l) = absurd (let bad : More more ≡ Done all = l.1 in cc)
 
-  pub items_is : IsExactUnless shut (Items over comma L) (Items wide comma F) (items over is_comma comma closes P) (items wide is_comma comma closes Q) (λ _. inside closes)
+  pub items_is : IsExactUnless shut (Items over comma L start add) (Items wide comma F start add) (items over is_comma comma closes P start add) (items wide is_comma comma closes Q start add) (λ _. inside closes)
   unfolding on
   items_is =
       exact_then {go = λ _. ends} p
@@ -225,14 +225,15 @@ module _ {T A : Type 0} (shut : Bool) (over wide : List A → Bool) (is_comma : 
       (λ all. avoids_loop step_avoids (λ r. closed) all)
       (λ r t h. h)
       (λ all. record { text = []; value = all; spelled = (suc zero, record { front = []; back = []; value = Done all; parts = refl; first = inr (refl, refl); second = (refl, refl) }) })
-      (a ∷ []))
-      (λ a. avoids_loop step_avoids (λ r. closed) (a ∷ []))
+      (start a))
+      (λ a. avoids_loop step_avoids (λ r. closed) (start a))
 
 -- Items with commas between them, and maybe a last comma, up to a token that closes. A comma is too deep where the items before it are
 -- too high. To be given: a token that is a comma; an item begins with no token that closes; a comma does not close; and neither a comma
 -- nor a token that closes goes on with an item.
-pub exact_items : {T A : Type 0} {shut : Bool} {over wide : List A → Bool} {is_comma : T → Bool} {comma : T → Option (Unit {0})} {ends : T → Bool} {L F : Lang T A} {P Q : Reader T A}
-    (closes : T → Bool) → ((all : List A) → wide all ≡ false) → (t : T) → comma t ≡ Some tt → IsExactUnless shut L F P Q (λ _. ends) → Begins (inside closes) L → ((t : T) (a : Unit {0}) → comma t ≡ Some a → is_comma t ≡ true)
+pub exact_items : {T A B : Type 0} {shut : Bool} {over wide : B → Bool} {is_comma : T → Bool} {comma : T → Option (Unit {0})} {ends : T → Bool} {L F : Lang T A} {P Q : Reader T A} {start : A → B} {add : B → A → B}
+    (closes : T → Bool) → ((all : B) → wide all ≡ false) → (t : T) → comma t ≡ Some tt → IsExactUnless shut L F P Q (λ _. ends) → Begins (inside closes) L → ((t : T) (a : Unit {0}) → comma t ≡ Some a → is_comma t ≡ true)
     → Covers (inside closes) is_comma → Apart is_comma ends → Covers (inside closes) ends
-    → IsExactUnless shut (Items over comma L) (Items wide comma F) (items over is_comma comma closes P) (items wide is_comma comma closes Q) (λ _. inside closes)
-exact_items {T} {A} {shut} {over} {wide} {is_comma} {comma} {ends} {L} {F} {P} {Q} closes free t known p begins commas bare apart closed = items_is shut over wide is_comma comma closes ends L F P Q free t known p begins commas bare apart closed
+    → IsExactUnless shut (Items over comma L start add) (Items wide comma F start add) (items over is_comma comma closes P start add) (items wide is_comma comma closes Q start add) (λ _. inside closes)
+exact_items {T} {A} {B} {shut} {over} {wide} {is_comma} {comma} {ends} {L} {F} {P} {Q} {start} {add} closes free t known p begins commas bare apart closed =
+    items_is shut over wide is_comma comma closes ends L F P Q start add free t known p begins commas bare apart closed

@@ -64,7 +64,7 @@ dead_where : {T A : Type 0} (X : Lang T A) (W : Reader T A) (only : (s : List T)
 dead_where {T} {A} X W only ts front rest parts other k h s x l e =
     let n = front_number ts front rest parts k h in
     let same : take (suc (length front)) s ≡ take (suc (length front)) (front ++ rest) =
-        subst (λ (z : List T). take (suc (length front)) s ≡ take (suc (length front)) z) parts (subst (λ (i : ℕ). take (suc i) s ≡ take (suc i) ts) n e) in
+    subst (λ (z : List T). take (suc (length front)) s ≡ take (suc (length front)) z) parts (subst (λ (i : ℕ). take (suc i) s ≡ take (suc i) ts) n e) in
     let b = agree front rest s same in
     other b.0 b.2 x (ap W (sym b.1) ∙ only s x l)
 
@@ -251,7 +251,7 @@ module _ {T A : Type 0} (C : ℕ → Lang T A) (R : ℕ → Reader T A) (go : �
             let at_end : k + 0 ≡ length ts = omega arith in
             let spelled : L ts a = rw all f.spelled in
             let dead : IsDead (Low tall L) ts k =
-                dead_where (Low tall L) (whole tall P) (whole_only tall) ts ts [] (sym (append-nil ts)) (λ r same x f. stop_is_not_got TooDeep [] (whole tall P (ts ++ r)) x (ended r same a high got) f) k at_end in
+            dead_where (Low tall L) (whole tall P) (whole_only tall) ts ts [] (sym (append-nil ts)) (λ r same x f. stop_is_not_got TooDeep [] (whole tall P (ts ++ r)) x (ended r same a high got) f) k at_end in
             subst (λ (w : Rule). IsRefused (Low tall L) (AtAnyDepth C) ts w k) why (omega arith, dead, (ts, a, (depth, p.grows ts a spelled), refl))
 
         refused : (o : Outcome T A) → P ts ≡ o → and_then o (end_behind tall) ≡ Stop rule rest → IsRefused (Low tall L) (AtAnyDepth C) ts rule k

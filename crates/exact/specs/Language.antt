@@ -70,16 +70,13 @@ Turns S (suc n) a ts r = Then (S a) (Onward (Turns S n)) ts r
 abbrev pub Loop : {T A R : Type 0} → (A → Lang T (Step A R)) → A → Lang T R
 Loop S a ts r = (n : ℕ) × Turns S n a ts r
 
--- The list with one value more at its end.
-abbrev pub added : {A : Type 0} → List A → A → List A
-added all a = all ++ a ∷ []
+-- Behind the items so far: a comma and an item, a comma that ends the list, or nothing.
+abbrev pub Item : {T A B : Type 0} → (B → Bool) → (T → Option (Unit {0})) → Lang T A → (B → A → B) → B → Lang T (Step B B)
+Item over comma L add all = Either (OneWithin (over all) comma >> Either (do item ← L; Empty (More (add all item))) (Empty (Done all))) (Empty (Done all))
 
--- Behind an item of a list: a comma and an item, a comma that ends the list, or nothing.
-abbrev pub Item : {T A : Type 0} → (List A → Bool) → (T → Option (Unit {0})) → Lang T A → List A → Lang T (Step (List A) (List A))
-Item over comma L all = Either (OneWithin (over all) comma >> Either (do item ← L; Empty (More (added all item))) (Empty (Done all))) (Empty (Done all))
-
--- Items with commas between them, and maybe a last comma. A comma passes a limit where `over` says so of the items before it.
-abbrev pub Items : {T A : Type 0} → (List A → Bool) → (T → Option (Unit {0})) → Lang T A → Lang T (List A)
-Items over comma L = do
+-- Items with commas between them, and maybe a last comma. `start` takes the first item, and `add` each further one.
+-- A comma passes a limit where `over` says so of the items before it.
+abbrev pub Items : {T A B : Type 0} → (B → Bool) → (T → Option (Unit {0})) → Lang T A → (A → B) → (B → A → B) → Lang T B
+Items over comma L start add = do
   first ← L
-  Loop (Item over comma L) (first ∷ [])
+  Loop (Item over comma L add) (start first)

@@ -1,6 +1,6 @@
 -- Reading from left to right, with one token to look at.
 use Rattle.std.specs.Prelude.{◌≡◌, ℕ, zero, suc, Bool, true, false, not, List, [], ◌∷◌, ◌++◌, length, Option, Some, None, Result, Ok, Err, if◌then◌else◌}
-use Rattle.exact.specs.Language.{Step, More, Done, added}
+use Rattle.exact.specs.Language.{Step, More, Done}
 use Rattle.exact.specs.declared.rule.Rule.{Rule}
 use Rattle.exact.specs.declared.rule.Rule.TheVariants.{Unexpected, TooDeep}
 use Rattle.exact.specs.declared.rule.ReadError.{ReadError}
@@ -88,13 +88,18 @@ loop last step a = λ ts. loop_from last step (length ts) a ts
 abbrev pub inside : {T : Type 0} → (T → Bool) → T → Bool
 inside closes t = not (closes t)
 
--- Behind an item: a comma and an item, a comma that ends the list since the list is closed behind it, or nothing.
-abbrev pub item : {T A : Type 0} → (List A → Bool) → (T → Bool) → (T → Option (Unit {0})) → (T → Bool) → Reader T A → List A → Reader T (Step (List A) (List A))
-item over is_comma comma closes p all = choose is_comma (one_within (over all) comma >> choose (inside closes) (p >>= λ a. pure (More (added all a))) (pure (Done all))) (pure (Done all))
+-- Behind the items so far: a comma and an item, a comma that ends the list since the list is closed behind it, or nothing.
+abbrev pub item : {T A B : Type 0} → (B → Bool) → (T → Bool) → (T → Option (Unit {0})) → (T → Bool) → Reader T A → (B → A → B) → B → Reader T (Step B B)
+item over is_comma comma closes p add all =
+    choose is_comma (one_within (over all) comma >> choose (inside closes) (p >>= λ a. pure (More (add all a))) (pure (Done all))) (pure (Done all))
+
+-- Further items, up to a token that closes.
+abbrev pub more_items : {T A B : Type 0} → (B → Bool) → (T → Bool) → (T → Option (Unit {0})) → (T → Bool) → Reader T A → (B → A → B) → B → Reader T B
+more_items over is_comma comma closes p add = loop pure (item over is_comma comma closes p add)
 
 -- Items with commas between them, and maybe a last comma, up to a token that closes.
-abbrev pub items : {T A : Type 0} → (List A → Bool) → (T → Bool) → (T → Option (Unit {0})) → (T → Bool) → Reader T A → Reader T (List A)
-items over is_comma comma closes p = p >>= λ a. loop pure (item over is_comma comma closes p) (a ∷ [])
+abbrev pub items : {T A B : Type 0} → (B → Bool) → (T → Bool) → (T → Option (Unit {0})) → (T → Bool) → Reader T A → (A → B) → (B → A → B) → Reader T B
+items over is_comma comma closes p start add = p >>= λ a. more_items over is_comma comma closes p add (start a)
 
 -- What a function that reads ensures: the reader's outcome, unless memory fails. At an error the tokens stand at the refused one.
 abbrev pub Reads : {T A : Type 0} → Outcome T A → Result A ReadError → List T → Type 0
