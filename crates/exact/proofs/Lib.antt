@@ -4,3 +4,4 @@ pub mod Loop
 pub mod Laws
 pub mod Whole
 pub mod Turns
+pub mod Single

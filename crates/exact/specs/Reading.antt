@@ -41,6 +41,10 @@ abbrev pub heads : {T : Type 0} → (T → Bool) → List T → Bool
 heads set [] = false
 heads set (t ∷ ts) = set t
 
+-- Whether the token stands for a value.
+abbrev pub has : {T A : Type 0} → (T → Option A) → T → Bool
+has f t = elim (f t) [ None ↦ false | Some a ↦ true ]
+
 -- What becomes of the token t: it is taken, or it passes a limit, or it is not one of those that may stand here.
 abbrev pub taken : {T A : Type 0} → Bool → Option A → T → Reader T A
 taken over None t = λ ts. Stop Unexpected (t ∷ ts)

@@ -1,0 +1,28 @@
+-- What single tokens stand for.
+use Rattle.std.specs.Prelude.{ℕ, Bool, true, false, Option, Some, None, if◌then◌else◌}
+use denote.Enum.Bare.{sameb}
+use Rattle.exact_trial.specs.contracts.token.Sign.{the_type}
+use Rattle.exact_trial.specs.declared.token.Token.{Token}
+use Rattle.exact_trial.specs.declared.token.Token.TheVariants as token
+use Rattle.exact_trial.specs.declared.token.Sign.{Sign}
+use Rattle.exact_trial.specs.declared.token.Sign.TheVariants as sign
+
+unfoldable pub same_sign : Sign → Sign → Bool
+same_sign = sameb the_type
+
+-- Whether the token is this sign.
+abbrev pub is : Sign → Token → Bool
+is s (token.Sign t) = same_sign s t
+is s _ = false
+
+-- The sign itself stands for no value.
+abbrev pub sign_of : Sign → Token → Option (Unit {0})
+sign_of s t = if is s t then Some tt else None
+
+abbrev pub name_of : Token → Option ℕ
+name_of (token.Name n) = Some n
+name_of _ = None
+
+abbrev pub int_of : Token → Option ℕ
+int_of (token.Int n) = Some n
+int_of _ = None
