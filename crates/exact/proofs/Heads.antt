@@ -132,6 +132,17 @@ begins_loop {T} {A} {R} {first} {S} s a = record { at = λ x r l. turns l.0 x r 
 pub avoids_begins : {T A : Type 0} {first set : T → Bool} {L : Lang T A} {go : A → T → Bool} → Begins first L → Apart first set → Avoids set L go
 avoids_begins {T} {A} {first} {set} {L} {go} l none = record { at = λ y a rest h stop. heads_apart first set none y rest (l.at y a h) }
 
+pub not_in : {T : Type 0} (set : T → Bool) → Apart (inside set) set
+not_in {T} set t h = cases (set t) refl
+  where
+    cases : (b : Bool) → set t ≡ b → set t ≡ false
+    cases true so = let bad : false ≡ true = sym (ap not so) ∙ h in absurd cc
+    cases false so = so
+
+-- what begins with no token of the set
+pub avoids_begun : {T A : Type 0} {set : T → Bool} {L : Lang T A} {go : A → T → Bool} → Begins (inside set) L → Avoids set L go
+avoids_begun {T} {A} {set} {L} {go} l = avoids_begins l (not_in set)
+
 pub avoids_none : {T A : Type 0} {L : Lang T A} {go : A → T → Bool} → Avoids never L go
 avoids_none = record { at = λ y a rest h stop. heads_never (y ++ rest) }
 
