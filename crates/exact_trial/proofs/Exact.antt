@@ -13,7 +13,7 @@ use Rattle.exact_trial.specs.Trees.{leaf, negated, joined, chosen, alone, added,
 use Rattle.exact_trial.specs.Grammar as g
 use Rattle.exact_trial.specs.Readers as r
 use Rattle.exact.specs.Language.{Lang, Empty, One, OneWithin, Then, Either, Chain, Items}
-use Rattle.exact.specs.Reading.{Reader, pure, has, one, one_within, choose, chain, inside}
+use Rattle.exact.specs.Reading.{Reader, pure, has, one, one_within, choose, chain, chain_from, inside}
 use Rattle.exact.proofs.Heads.{begins_one, avoids_begun, Begins, Avoids, never, begins_then, begins_either, begins_in, avoids_begins, avoids_empty, avoids_either, avoids_none, avoids_chain, avoids_then}
 use Rattle.exact.proofs.Exact.{Inhabited, IsExact}
 use Rattle.exact.proofs.Laws.{IsExactUnless, exact_pure, exact_one, exact_then, exact_map, exact_lead, exact_open, exact_behind, exact_within, exact_choose, exact_chain, exact_items, exact_closed, exact_any, exact_under, exact_shut, exact_weaken}
@@ -183,10 +183,49 @@ closed = record { expr = exact_shut all; coalesce = exact_shut all; unary = exac
     all : Inhabited {T = Token} {A = Grown} (λ ts x. Unit {0})
     all = record { text = []; value = leaf (e.Int 0); spelled = tt }
 
-a_text : List Token
-a_text = token.Int 0 ∷ []
-
--- some text is spelled with no part open
+-- some text is spelled with no part open: the reader says so
 some_unary : Inhabited (g.within unlimited zero).unary
 unfolding g.within r.unary r.atom same_sign
-some_unary = let t = ((exact_unary zero unlimited g.nothing anything r.nothing r.nothing closed {on = λ _. never}).exact refl).takes (token.Int 0 ∷ []) (leaf (e.Int 0)) [] refl in record { text = t.front; value = leaf (e.Int 0); spelled = t.spelled }
+some_unary =
+    let t = ((exact_unary zero unlimited g.nothing anything r.nothing r.nothing closed {on = λ _. never}).exact refl).takes (token.Int 0 ∷ []) (leaf (e.Int 0)) [] refl in
+    record { text = t.front; value = leaf (e.Int 0); spelled = t.spelled }
+
+some_coalesce : Inhabited (g.within unlimited zero).coalesce
+unfolding g.within r.coalesce r.unary r.atom same_sign
+some_coalesce =
+    let t = ((exact_coalesce zero unlimited g.nothing anything r.nothing r.nothing closed).exact refl).takes (token.Int 0 ∷ []) (leaf (e.Int 0)) [] refl in
+    record { text = t.front; value = leaf (e.Int 0); spelled = t.spelled }
+
+some_expr : Inhabited (g.within unlimited zero).expr
+unfolding g.within r.choice r.sum r.terms r.coalesce r.unary r.atom same_sign chain_from
+some_expr =
+    let t = ((exact_choice zero unlimited g.nothing anything r.nothing r.nothing closed).exact refl).takes (token.Int 0 ∷ []) (leaf (e.Int 0)) [] refl in
+    record { text = t.front; value = leaf (e.Int 0); spelled = t.spelled }
+
+-- what is known of the parts that may stand open
+opens : (depth : ℕ) (high : ℕ → Bool) → Reads depth high → Opens (suc depth) (g.within high depth) (g.within unlimited (suc depth)) (r.within high depth) (r.within unlimited (suc depth))
+opens depth high x = record { expr = exact_any x.expr; coalesce = exact_any x.coalesce; unary = exact_any x.unary; begins = x.begins }
+
+pub reads : (depth : ℕ) (high : ℕ → Bool) → Reads depth high
+unfolding g.within r.within
+reads zero high =
+    let none : Opens zero g.nothing (g.within unlimited zero) r.nothing (r.within unlimited zero) =
+        record { expr = exact_shut some_expr; coalesce = exact_shut some_coalesce; unary = exact_shut some_unary; begins = record { at = λ x a l. absurd l } } in
+    record {
+      expr = exact_choice zero high g.nothing (g.within unlimited zero) r.nothing (r.within unlimited zero) none;
+      coalesce = exact_coalesce zero high g.nothing (g.within unlimited zero) r.nothing (r.within unlimited zero) none;
+      unary = exact_unary zero high g.nothing (g.within unlimited zero) r.nothing (r.within unlimited zero) none;
+      begins = choice_begins zero high g.nothing (g.within unlimited zero) r.nothing (r.within unlimited zero) none;
+    }
+reads (suc depth) high =
+    let inner = opens depth high (reads depth high) in
+    record {
+      expr = exact_choice (suc depth) high (g.within high depth) (g.within unlimited (suc depth)) (r.within high depth) (r.within unlimited (suc depth)) inner;
+      coalesce = exact_coalesce (suc depth) high (g.within high depth) (g.within unlimited (suc depth)) (r.within high depth) (r.within unlimited (suc depth)) inner;
+      unary = exact_unary (suc depth) high (g.within high depth) (g.within unlimited (suc depth)) (r.within high depth) (r.within unlimited (suc depth)) inner;
+      begins = choice_begins (suc depth) high (g.within high depth) (g.within unlimited (suc depth)) (r.within high depth) (r.within unlimited (suc depth)) inner;
+    }
+
+-- An expression with at most so many parts open is read exactly.
+pub exact_expr : (depth : ℕ) (high : ℕ → Bool) → IsExact (g.within high depth).expr (g.within unlimited (suc depth)).expr (r.within high depth).expr (r.within unlimited (suc depth)).expr (λ _. go 5)
+exact_expr depth high = (reads depth high).expr.exact refl
