@@ -1,12 +1,12 @@
 -- A loop of steps, of which the last says that the loop is over: any loop that unrolls so is exact.
-use Rattle.std.proofs.Common.{◌≡◌, ℕ, zero, suc, ◌+◌, ◌≤◌, ◌<◌, Bool, true, false, cond, List, [], ◌∷◌, ◌++◌, length, refl, sym, ap, subst, ◌∙◌, append_assoc, arith, inl, inr}
+use Rattle.std.proofs.Common.{◌≡◌, ℕ, zero, suc, ◌≤◌, ◌<◌, Bool, true, false, cond, List, [], ◌∷◌, ◌++◌, length, refl, sym, ap, subst, ◌∙◌, append_assoc, arith, inl, inr}
 use Rattle.std.proofs.lemmas.List.{length-append, append-nil}
 use Rattle.exact.specs.declared.rule.Rule.{Rule}
 use Rattle.exact.specs.declared.rule.Rule.TheVariants.{Unexpected, TooDeep}
 use Rattle.exact.specs.Language.{Lang, Empty, Then, Either, Step, More, Done, Onward, Turns, Loop, Links, Chain}
 use Rattle.exact.specs.Reading.{Outcome, Got, Stop, Reader, and_then, ◌>>=◌, pure, heads, choose, onward, loop_from, loop, chain_from, chain}
 use Rattle.exact.proofs.Heads.{SameHead, same_head_behind, same_head_of, heads_less, BeginsIn, begins_long, Begins, Avoids, avoids_empty, Covers, Apart, heads_apart}
-use Rattle.exact.proofs.Exact.{IsExact, Took, Stopped, Keeps, keeps_longer, Inhabited, Extends, pure_is, then_is, choose_is, alike_is, choose_true, choose_false}
+use Rattle.exact.proofs.Exact.{IsExact, Keeps, keeps_longer, Inhabited, Extends, pure_is, then_is, choose_is, alike_is}
 
 module _ {T A R : Type 0} (S Z : A → Lang T (Step A R)) (step step' : A → Reader T (Step A R)) (run run' : ℕ → A → Reader T R) (go : R → T → Bool) (goS : Step A R → T → Bool)
     (p : (a : A) → IsExact (S a) (Z a) (step a) (step' a) goS)

@@ -1,14 +1,14 @@
 -- From exactness to what is promised: at most one value for a text, what is found, that only that is found, and where a text is refused.
-use Rattle.std.proofs.Common.{◌≡◌, ℕ, zero, suc, ◌+◌, ◌-◌, ◌≤◌, ◌<◌, Bool, true, false, cond, List, [], ◌∷◌, ◌++◌, length, take, drop, refl, sym, ap, subst, ◌∙◌, append_assoc, arith, inl, inr, ◌⊎◌}
+use Rattle.std.proofs.Common.{◌≡◌, ℕ, zero, suc, ◌+◌, ◌≤◌, ◌<◌, Bool, true, false, cond, List, [], ◌∷◌, ◌++◌, length, take, refl, sym, ap, subst, ◌∙◌, arith, inl, inr, ◌⊎◌}
 use Rattle.std.proofs.lemmas.Bool.{cases_lt}
-use Rattle.std.proofs.lemmas.List.{length-append, append-nil, take-append-le, take-append-drop}
+use Rattle.std.proofs.lemmas.List.{length-append, append-nil}
 use Rattle.exact.specs.declared.rule.Rule.{Rule}
 use Rattle.exact.specs.declared.rule.Rule.TheVariants.{Unexpected, TooDeep}
 use Rattle.exact.specs.Language.{Lang}
-use Rattle.exact.specs.Reading.{Outcome, Got, Stop, Reader, and_then, ◌>>=◌, heads, end_behind, whole}
+use Rattle.exact.specs.Reading.{Outcome, Got, Stop, Reader, and_then, heads, end_behind, whole}
 use Rattle.exact.specs.Promise.{IsDead, IsAlive, IsAliveThrough, IsRefused, IsPrefix, Low, AtAnyDepth}
 use Rattle.exact.proofs.Heads.{SameHead, SameToken}
-use Rattle.exact.proofs.Exact.{IsExact, Took, Stopped, Keeps, Extends}
+use Rattle.exact.proofs.Exact.{IsExact, Extends}
 
 -- ---- lists that agree up to and including the token behind a front
 

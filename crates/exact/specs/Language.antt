@@ -1,5 +1,5 @@
 -- Which lists of tokens spell which values, and how such languages are put together.
-use Rattle.std.specs.Prelude.{◌≡◌, ℕ, zero, suc, Bool, true, false, List, [], ◌∷◌, ◌++◌, Option, Some, ◌⊎◌}
+use Rattle.std.specs.Prelude.{◌≡◌, ℕ, zero, suc, Bool, false, List, [], ◌∷◌, ◌++◌, Option, Some, ◌⊎◌}
 
 -- A language says which tokens spell which value.
 abbrev pub Lang : Type 0 → Type 0 → Type 1

@@ -1,5 +1,5 @@
 -- Reading from left to right, with one token to look at.
-use Rattle.std.specs.Prelude.{◌≡◌, ℕ, zero, suc, Bool, true, false, not, List, [], ◌∷◌, ◌++◌, length, Option, Some, None, Result, Ok, Err, if◌then◌else◌}
+use Rattle.std.specs.Prelude.{◌≡◌, ℕ, zero, suc, Bool, true, false, not, List, [], ◌∷◌, length, Option, Some, None, Result, Ok, Err, if◌then◌else◌}
 use Rattle.exact.specs.Language.{Step, More, Done}
 use Rattle.exact.specs.declared.rule.Rule.{Rule}
 use Rattle.exact.specs.declared.rule.Rule.TheVariants.{Unexpected, TooDeep}

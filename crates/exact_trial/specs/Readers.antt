@@ -7,6 +7,8 @@ use Rattle.exact_trial.specs.declared.tree.Expr.TheVariants as e
 use Rattle.exact_trial.specs.declared.tree.Operator.TheVariants as op
 use Rattle.exact_trial.specs.declared.tree.Grown.{Grown}
 use Rattle.exact_trial.specs.declared.tree.Bunch.{Bunch}
+use Rattle.exact_trial.specs.declared.read.Open.{Open}
+use Rattle.exact_trial.specs.declared.read.Open.TheVariants as open_
 use Rattle.exact_trial.specs.Words.{is, sign_of, name_of, int_of}
 use Rattle.exact_trial.specs.Trees.{leaf, negated, joined, chosen, alone, added, collected}
 use Rattle.exact.specs.Reading.{Reader, ◌>>=◌, ◌>>◌, pure, refuse, has, one, one_within, choose, chain, more_items, items}
@@ -92,3 +94,9 @@ within high (suc depth) = levels (suc depth) high (within high depth)
 unfoldable pub inside : (ℕ → Bool) → ℕ → Inner
 inside high zero = nothing
 inside high (suc depth) = within high depth
+
+-- What is read in an open part of this kind.
+abbrev pub part_of : Open → Inner → Reader Token Grown
+part_of open_.Whole inner = inner.expr
+part_of open_.Right inner = inner.coalesce
+part_of open_.Operand inner = inner.unary
