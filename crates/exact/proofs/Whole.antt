@@ -264,3 +264,22 @@ module _ {T A : Type 0} (C : ℕ → Lang T A) (R : ℕ → Reader T A) (go : �
         refused (Stop why mid) got e =
             let same_rule : why ≡ rule = cc in let same_rest : mid ≡ rest = cc in
             low_refused rule (stop_refused ts rule rest (rw (← same_rule, ← same_rest) got) k h)
+
+    -- What is left where the whole text is refused.
+    pub whole_left : (tall : A → Bool) (ts : List T) (rule : Rule) (rest : List T) → whole tall P ts ≡ Stop rule rest → length rest ≤ length ts
+    whole_left tall ts rule rest e = left (P ts) refl e
+      where
+        at_end : (b : Bool) (a : A) → ◌≡◌ {A = Outcome T A} (cond b (Stop TooDeep []) (Got a [])) (Stop rule rest) → length rest ≤ length ts
+        at_end true a e = let none : [] ≡ rest = cc in let none_left : 0 ≡ length rest = ap length none in omega arith
+        at_end false a e = absurd cc
+
+        left : (o : Outcome T A) → P ts ≡ o → and_then o (end_behind tall) ≡ Stop rule rest → length rest ≤ length ts
+        left (Got a []) got e = at_end (tall a) a e
+        left (Got a (t ∷ mid)) got e =
+            let same : t ∷ mid ≡ rest = cc in
+            let f = p.takes ts a (t ∷ mid) got in
+            omega (arith, length-append f.front (t ∷ mid), ap length f.parts, ap length same)
+        left (Stop why mid) got e =
+            let same : mid ≡ rest = cc in
+            let f = p.stops ts why mid got in
+            omega (arith, length-append f.front mid, ap length f.parts, ap length same)

@@ -210,7 +210,7 @@ pub reads : (depth : ℕ) (high : ℕ → Bool) → Reads depth high
 unfolding g.within r.within
 reads zero high =
     let none : Opens zero g.nothing (g.within unlimited zero) r.nothing (r.within unlimited zero) =
-        record { expr = exact_shut some_expr; coalesce = exact_shut some_coalesce; unary = exact_shut some_unary; begins = record { at = λ x a l. absurd l } } in
+    record { expr = exact_shut some_expr; coalesce = exact_shut some_coalesce; unary = exact_shut some_unary; begins = record { at = λ x a l. absurd l } } in
     record {
       expr = exact_choice zero high g.nothing (g.within unlimited zero) r.nothing (r.within unlimited zero) none;
       coalesce = exact_coalesce zero high g.nothing (g.within unlimited zero) r.nothing (r.within unlimited zero) none;

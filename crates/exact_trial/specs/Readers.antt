@@ -11,7 +11,8 @@ use Rattle.exact_trial.specs.declared.read.Open.{Open}
 use Rattle.exact_trial.specs.declared.read.Open.TheVariants as open_
 use Rattle.exact_trial.specs.Words.{is, sign_of, name_of, int_of}
 use Rattle.exact_trial.specs.Trees.{leaf, negated, joined, chosen, alone, added, collected}
-use Rattle.exact.specs.Reading.{Reader, ◌>>=◌, ◌>>◌, pure, refuse, has, one, one_within, choose, chain, more_items, items}
+use Rattle.exact.specs.Reading.{Reader, ◌>>=◌, ◌>>◌, pure, refuse, has, one, one_within, choose, chain, item, more_items, items}
+use Rattle.exact.specs.Language.{Step}
 
 pub record Inner : Type 0 where
   pub expr : Reader Token Grown
@@ -25,6 +26,9 @@ module _ (depth : ℕ) (high : ℕ → Bool) (inner : Inner) where
     x ← inner.expr
     one_within (high x.height) (sign_of sign.RightParen)
     pure x
+
+  abbrev pub next_item : Bunch → Reader Token (Step Bunch Bunch)
+  next_item = item (λ all. high all.height) (is sign.Comma) (sign_of sign.Comma) (is sign.RightBrace) inner.expr added
 
   unfoldable pub further : Bunch → Reader Token Bunch
   further = more_items (λ all. high all.height) (is sign.Comma) (sign_of sign.Comma) (is sign.RightBrace) inner.expr added

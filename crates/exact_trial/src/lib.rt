@@ -3,8 +3,6 @@
 
 pub mod read;
 mod refusal;
-
-
 mod token;
 mod tokens;
 mod tree;

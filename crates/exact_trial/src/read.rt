@@ -147,7 +147,7 @@ impl<F: Fn(Global, &mut Tokens<'_>, usize, Open) -> Result<Grown, ReadError>> Gr
         Ok(x)
     }
 
-    #[tactic(auto, unfolding(crate::specs::Readers::further))]
+    #[tactic(auto, using(exact::proofs::Turns::loop_over, exact::proofs::Turns::loop_turn), unfolding(crate::specs::Readers::further))]
     fn further(&self, tokens: &mut Tokens<'_>, first: Bunch) -> Result<Bunch, ReadError>
         requires nests { Nests self.now.depth (F.pre self.now.inner) (F.post self.now.inner) }
         requires deeper { 0 < self.now.depth }
@@ -236,7 +236,7 @@ impl<F: Fn(Global, &mut Tokens<'_>, usize, Open) -> Result<Grown, ReadError>> Gr
         Ok(joined(self.alloc, Operator::Coalesce, left, right)?)
     }
 
-    #[tactic(auto, unfolding(crate::specs::Readers::terms))]
+    #[tactic(auto, using(exact::proofs::Turns::chain_stays, exact::proofs::Turns::chain_over, exact::proofs::Turns::chain_turn), unfolding(crate::specs::Readers::terms))]
     fn terms(&self, tokens: &mut Tokens<'_>, first: Grown) -> Result<Grown, ReadError>
         requires { Nests self.now.depth (F.pre self.now.inner) (F.post self.now.inner) }
         ensures { Reads (spec.terms self.now.depth too_high (spec.inside too_high self.now.depth) first tokens.old) result tokens.new }
