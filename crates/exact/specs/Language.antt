@@ -1,34 +1,34 @@
 -- Which lists of tokens spell which values, and how such languages are put together.
-use Rattle.std.specs.Prelude.{◌≡◌, ℕ, zero, suc, Bool, false, List, [], ◌∷◌, ◌++◌, Option, Some, ◌⊎◌}
+use Rattle.std.specs.Prelude.{◌≡◌, ◌-◌, ◌<◌, ℕ, zero, suc, Bool, false, List, [], ◌∷◌, ◌++◌, length, Option, Some, ◌⊎◌}
 
--- A language says which tokens spell which value.
+-- A language says which tokens spell which value, where the limits are kept at the first so many tokens.
 abbrev pub Lang : Type 0 → Type 0 → Type 1
-Lang T A = List T → A → Type 0
+Lang T A = ℕ → List T → A → Type 0
 
 -- No token at all spells the value.
 abbrev pub Empty : {T A : Type 0} → A → Lang T A
-Empty a ts b = (ts ≡ []) × (b ≡ a)
+Empty a n ts b = (ts ≡ []) × (b ≡ a)
 
 -- Nothing is spelled.
 abbrev pub Never : {T A : Type 0} → Lang T A
-Never ts a = ⊥
+Never n ts a = ⊥
 
 -- One token that stands for a value.
 abbrev pub One : {T A : Type 0} → (T → Option A) → Lang T A
-One f ts a = (t : _) × (ts ≡ t ∷ []) × (f t ≡ Some a)
+One f n ts a = (t : _) × (ts ≡ t ∷ []) × (f t ≡ Some a)
 
--- One token that stands for a value, where it passes no limit.
+-- One token that stands for a value. Where it passes a limit, as `over` says, the limits are not kept here.
 abbrev pub OneWithin : {T A : Type 0} → Bool → (T → Option A) → Lang T A
-OneWithin over f ts a = (over ≡ false) × One f ts a
+OneWithin over f n ts a = (0 < n → over ≡ false) × One f n ts a
 
 -- First a value of L, and behind it what M says of that value.
-pub record Then {T A B : Type 0} (L : Lang T A) (M : A → Lang T B) (ts : List T) (b : B) : Type 0 where
+pub record Then {T A B : Type 0} (L : Lang T A) (M : A → Lang T B) (n : ℕ) (ts : List T) (b : B) : Type 0 where
   pub front : List T
   pub back : List T
   pub value : A
   pub parts : ts ≡ front ++ back
-  pub first : L front value
-  pub second : M value back b
+  pub first : L n front value
+  pub second : M value (n - length front) back b
 
 infixl 10 ◌>>=◌
 abbrev pub ◌>>=◌ : {T A B : Type 0} → Lang T A → (A → Lang T B) → Lang T B
@@ -40,16 +40,16 @@ L >> M = Then L (λ _. M)
 
 -- One of two.
 abbrev pub Either : {T A : Type 0} → Lang T A → Lang T A → Lang T A
-Either L M ts a = L ts a ⊎ M ts a
+Either L M n ts a = L n ts a ⊎ M n ts a
 
 -- So many steps, each from the value so far.
 abbrev pub Links : {T A : Type 0} → (A → Lang T A) → ℕ → A → Lang T A
-Links S zero a ts e = Empty a ts e
-Links S (suc n) a ts e = Then (S a) (Links S n) ts e
+Links S zero a = Empty a
+Links S (suc k) a = Then (S a) (Links S k)
 
 -- Any number of steps, each from the value so far: what is grouped from the left.
 abbrev pub Chain : {T A : Type 0} → (A → Lang T A) → A → Lang T A
-Chain S a ts e = (n : ℕ) × Links S n a ts e
+Chain S a n ts e = (k : ℕ) × Links S k a n ts e
 
 -- What a step of a loop gives: a value to go on from, or the loop's own.
 pub data Step (A R : Type 0) : Type 0 where
@@ -63,12 +63,12 @@ Onward L (Done r) = Empty r
 
 -- So many steps, of which only the last says that the loop is over.
 abbrev pub Turns : {T A R : Type 0} → (A → Lang T (Step A R)) → ℕ → A → Lang T R
-Turns S zero a ts r = ⊥
-Turns S (suc n) a ts r = Then (S a) (Onward (Turns S n)) ts r
+Turns S zero a = Never
+Turns S (suc k) a = Then (S a) (Onward (Turns S k))
 
 -- Steps, of which only the last says that the loop is over.
 abbrev pub Loop : {T A R : Type 0} → (A → Lang T (Step A R)) → A → Lang T R
-Loop S a ts r = (n : ℕ) × Turns S n a ts r
+Loop S a n ts r = (k : ℕ) × Turns S k a n ts r
 
 -- Behind the items so far: a comma and an item, a comma that ends the list, or nothing.
 abbrev pub Item : {T A B : Type 0} → (B → Bool) → (T → Option (Unit {0})) → Lang T A → (B → A → B) → B → Lang T (Step B B)

@@ -111,6 +111,11 @@ Reads outcome (Ok a) new = outcome ≡ Got a new
 Reads outcome (Err Memory) new = Unit {0}
 Reads outcome (Err (Refused rule)) new = outcome ≡ Stop rule new
 
+-- What a function that reads and asks for no memory ensures: the reader's outcome. At an error the tokens stand at the refused one.
+abbrev pub Takes : {T A : Type 0} → Outcome T A → Result A Rule → List T → Type 0
+Takes outcome (Ok a) new = outcome ≡ Got a new
+Takes outcome (Err rule) new = outcome ≡ Stop rule new
+
 -- The end of the text, behind a value: it is too deep where the value is too high.
 abbrev pub end_behind : {T A : Type 0} → (A → Bool) → A → Reader T A
 end_behind tall a [] = if tall a then Stop TooDeep [] else Got a []
