@@ -88,6 +88,10 @@ exact_lowered {T} {A} {mode} over p = record { exact = λ o. p.exact (from_open 
 pub exact_any : {T A : Type 0} {mode : Mode} {L U : Lang T A} {P : Reader T A} {go : A → T → Bool} → IsExactAt Open L U P go → IsExactAt mode L U P go
 exact_any p = record { exact = λ o. p.exact tt; some = λ t. p.some tt; grows = p.grows; loosens = p.loosens }
 
+-- Where nothing is known of the reader, any other will do.
+pub exact_unread : {T A : Type 0} {L U : Lang T A} {P Q : Reader T A} {go other : A → T → Bool} → IsExactAt Void L U P go → IsExactAt Void L U Q other
+exact_unread p = record { exact = λ o. absurd o; some = λ t. absurd t; grows = p.grows; loosens = p.loosens }
+
 -- Where the reader does not come, whatever it would do.
 pub exact_shut : {T A : Type 0} {L U : Lang T A} {P Q : Reader T A} {go : A → T → Bool} → Inhabited L → IsExactAt Void L U Q go → IsExactAt Shut L U P go
 exact_shut f p = record { exact = λ o. absurd o; some = λ t. f; grows = p.grows; loosens = p.loosens }

@@ -1,7 +1,7 @@
 //! Why a reader stopped.
 
 ghost use Rattle.std.specs.Prelude.{◌≡◌};
-ghost use Rattle.exact.specs.declared.rule.ReadError.TheVariants.{Memory};
+ghost use Rattle.exact.specs.declared.rule.ReadError.TheVariants.{Memory, Refused};
 
 use std::alloc::AllocError;
 
@@ -28,5 +28,13 @@ impl From<AllocError> for ReadError {
 
     fn from(_e: AllocError) -> ReadError {
         ReadError::Memory
+    }
+}
+
+impl From<Rule> for ReadError {
+    ghost from_gives = { λ rule e. e ≡ Refused rule };
+
+    fn from(rule: Rule) -> ReadError {
+        ReadError::Refused(rule)
     }
 }

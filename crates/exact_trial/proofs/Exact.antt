@@ -1,5 +1,5 @@
 -- The readers are exact for the grammar.
-use Rattle.std.proofs.Common.{◌≡◌, ℕ, zero, suc, ◌≤◌, ◌<◌, Bool, true, false, cond, ◌||◌, ◌==◌, List, [], ◌∷◌, Option, Some, None, refl, sym, ap, ◌∙◌, subst, arith}
+use Rattle.std.proofs.Common.{◌≡◌, ℕ, zero, suc, ◌+◌, ◌≤◌, ◌<◌, Bool, true, false, cond, ◌||◌, ◌==◌, List, [], ◌∷◌, Option, Some, None, refl, sym, ap, ◌∙◌, subst, arith}
 use Rattle.std.proofs.Math.Dec.{eqb, eqb-suc-zero}
 use Rattle.exact_trial.specs.declared.token.Token.{Token}
 use Rattle.exact_trial.specs.declared.token.Token.TheVariants as token
@@ -14,16 +14,16 @@ use Rattle.exact_trial.specs.Grammar as g
 use Rattle.exact_trial.specs.Readers as r
 use Rattle.exact.specs.Language.{Lang, Empty, One, OneWithin, Then, Either, Chain, Items}
 use Rattle.exact.specs.Reading.{Reader, pure, has, one, one_within, choose, chain, chain_from, inside}
-use Rattle.exact.proofs.Heads.{begins_one, avoids_begun, Begins, Avoids, never, begins_then, begins_either, begins_in, avoids_begins, avoids_empty, avoids_either, avoids_none, avoids_chain, avoids_then}
+use Rattle.exact.proofs.Heads.{begins_never, begins_one, avoids_begun, Begins, Avoids, never, begins_then, begins_either, begins_in, avoids_begins, avoids_empty, avoids_either, avoids_none, avoids_chain, avoids_then}
 use Rattle.exact.proofs.Exact.{Inhabited, IsExact}
-use Rattle.exact.proofs.Laws.{IsExactUnless, exact_pure, exact_one, exact_then, exact_map, exact_lead, exact_open, exact_behind, exact_within, exact_choose, exact_chain, exact_items, exact_closed, exact_any, exact_under, exact_shut, exact_weaken}
+use Rattle.exact.proofs.Laws.{Mode, Open, Shut, Void, lowered, IsExactAt, exact_void, some_empty, some_one, some_then, some_left, some_right, some_chain, exact_pure, exact_one, exact_then, exact_map, exact_lead, exact_open, exact_behind, exact_within, exact_choose, exact_chain, exact_items, exact_closed, exact_any, exact_unread, exact_shut, exact_weaken}
 use Rattle.exact_trial.proofs.Sets.{avoids_sign, in_starts, go, starts, at_sign, covers_sign, lacks_sign, closes_sign, sign_some, begins_sign, begins_name, begins_int, tighter}
 
--- What is known of an open part, and of the same with one part more and no limit of heights.
-pub record Opens (depth : ℕ) (L F : g.Inner) (P Q : r.Inner) : Type 0 where
-  pub expr : IsExactUnless (depth == 0) L.expr F.expr P.expr Q.expr (λ _. go 5)
-  pub coalesce : IsExactUnless (depth == 0) L.coalesce F.coalesce P.coalesce Q.coalesce (λ _. go 9)
-  pub unary : IsExactUnless (depth == 0) L.unary F.unary P.unary Q.unary (λ _. never)
+-- What is known of the languages and readers of a level, U being the same with no limit passed.
+pub record Known (mode : Mode) (L U : g.Inner) (P : r.Inner) : Type 0 where
+  pub expr : IsExactAt mode L.expr U.expr P.expr (λ _. go 5)
+  pub coalesce : IsExactAt mode L.coalesce U.coalesce P.coalesce (λ _. go 9)
+  pub unary : IsExactAt mode L.unary U.unary P.unary (λ _. never)
   pub begins : Begins starts L.expr
 
 or_left : (a b : Bool) → (a || b) ≡ false → a ≡ false
@@ -34,16 +34,13 @@ or_right : (a b : Bool) → (a || b) ≡ false → b ≡ false
 or_right true b h = absurd cc
 or_right false b h = h
 
-module _ (depth : ℕ) (high : ℕ → Bool) (L F : g.Inner) (P Q : r.Inner) (h : Opens depth L F P Q) where
-  free : (suc depth == 0) ≡ false
-  free = eqb-suc-zero depth
-
-  free_or : (false || (suc depth == 0)) ≡ false
-  free_or = free
+module _ (mode : Mode) (depth deep : ℕ) (high : ℕ → Bool) (L U : g.Inner) (P : r.Inner) (h : Known (lowered (depth == 0) mode) L U P) where
+  free : (suc deep == 0) ≡ false
+  free = eqb-suc-zero deep
 
   -- ---- brackets
 
-  exact_group : {on : Grown → Token → Bool} → IsExactUnless false (g.Group depth high L) (g.Group (suc depth) unlimited F) (r.group depth high P) (r.group (suc depth) unlimited Q) on
+  exact_group : {on : Grown → Token → Bool} → IsExactAt mode (g.Group depth high L) (g.Group (suc deep) unlimited U) (r.group depth high P) on
   unfolding r.group same_sign
   exact_group =
       exact_open (sign_of sign.LeftParen) (token.Sign sign.LeftParen) tt refl free
@@ -52,7 +49,7 @@ module _ (depth : ℕ) (high : ℕ → Bool) (L F : g.Inner) (P Q : r.Inner) (h 
   group_begins : {first : Token → Bool} → first (token.Sign sign.LeftParen) ≡ true → Begins first (g.Group depth high L)
   group_begins l = begins_then (begins_sign sign.LeftParen l)
 
-  exact_filled : {on : Grown → Token → Bool} → IsExactUnless (depth == 0) (g.Filled depth high L) (g.Filled (suc depth) unlimited F) (r.filled depth high P) (r.filled (suc depth) unlimited Q) on
+  exact_filled : {on : Grown → Token → Bool} → IsExactAt (lowered (depth == 0) mode) (g.Filled depth high L) (g.Filled (suc deep) unlimited U) (r.filled depth high P) on
   unfolding r.filled same_sign
   exact_filled =
       exact_then
@@ -64,7 +61,7 @@ module _ (depth : ℕ) (high : ℕ → Bool) (L F : g.Inner) (P Q : r.Inner) (h 
   filled_begins : Begins starts (g.Filled depth high L)
   filled_begins = begins_then (begins_then h.begins)
 
-  exact_braces : {on : Grown → Token → Bool} → IsExactUnless false (g.Braces depth high L) (g.Braces (suc depth) unlimited F) (r.braces depth high P) (r.braces (suc depth) unlimited Q) on
+  exact_braces : {on : Grown → Token → Bool} → IsExactAt mode (g.Braces depth high L) (g.Braces (suc deep) unlimited U) (r.braces depth high P) on
   unfolding r.braces same_sign
   exact_braces =
       exact_open (sign_of sign.LeftBrace) (token.Sign sign.LeftBrace) tt refl free
@@ -88,7 +85,7 @@ module _ (depth : ℕ) (high : ℕ → Bool) (L F : g.Inner) (P Q : r.Inner) (h 
   unfolding Leaf
   atom_begins p b i n = begins_either (group_begins p) (begins_either (braces_begin b) (leaf_begins i n))
 
-  exact_atom : {on : Grown → Token → Bool} → IsExactUnless false (g.Atom depth high L) (g.Atom (suc depth) unlimited F) (r.atom depth high P) (r.atom (suc depth) unlimited Q) on
+  exact_atom : {on : Grown → Token → Bool} → IsExactAt mode (g.Atom depth high L) (g.Atom (suc deep) unlimited U) (r.atom depth high P) on
   unfolding r.atom same_sign Leaf
   exact_atom =
       exact_choose exact_group
@@ -106,7 +103,7 @@ module _ (depth : ℕ) (high : ℕ → Bool) (L F : g.Inner) (P Q : r.Inner) (h 
   Minus : Lang Token Grown
   Minus = Then (OneWithin (depth == 0) (sign_of sign.Minus)) (λ _. Then L.unary (λ x. Empty (negated x)))
 
-  exact_unary : {on : Grown → Token → Bool} → IsExactUnless false (g.Unary depth high L) (g.Unary (suc depth) unlimited F) (r.unary depth high P) (r.unary (suc depth) unlimited Q) on
+  exact_unary : {on : Grown → Token → Bool} → IsExactAt mode (g.Unary depth high L) (g.Unary (suc deep) unlimited U) (r.unary depth high P) on
   unfolding r.unary same_sign
   exact_unary =
       exact_choose (exact_open (sign_of sign.Minus) (token.Sign sign.Minus) tt refl free (λ _. exact_closed (exact_map negated h.unary))) exact_atom
@@ -118,12 +115,12 @@ module _ (depth : ℕ) (high : ℕ → Bool) (L F : g.Inner) (P Q : r.Inner) (h 
 
   -- ---- '??'
 
-  exact_coalesce : IsExactUnless false (g.Coalesce depth high L) (g.Coalesce (suc depth) unlimited F) (r.coalesce depth high P) (r.coalesce (suc depth) unlimited Q) (λ _. go 9)
+  exact_coalesce : IsExactAt mode (g.Coalesce depth high L) (g.Coalesce (suc deep) unlimited U) (r.coalesce depth high P) (λ _. go 9)
   unfolding r.coalesce same_sign
   exact_coalesce =
       exact_then (exact_unary {on = λ _. never})
       (λ left. exact_choose
-      (exact_within (sign_of sign.Coalesce) (token.Sign sign.Coalesce) tt refl free (λ o s. or_right (high left.height) (depth == 0) o) (λ _. exact_map (joined op.Coalesce left) h.coalesce))
+      (exact_within (sign_of sign.Coalesce) (token.Sign sign.Coalesce) tt refl free (or_right (high left.height) (depth == 0)) (λ _. exact_map (joined op.Coalesce left) h.coalesce))
       (exact_pure left)
       (begins_then (begins_sign sign.Coalesce refl))
       (avoids_empty left (covers_sign sign.Coalesce (go 9) refl)))
@@ -134,7 +131,7 @@ module _ (depth : ℕ) (high : ℕ → Bool) (L F : g.Inner) (P Q : r.Inner) (h 
 
   -- ---- '+'
 
-  exact_sum : IsExactUnless false (g.Sum depth high L) (g.Sum (suc depth) unlimited F) (r.sum depth high P) (r.sum (suc depth) unlimited Q) (λ _. go 7)
+  exact_sum : IsExactAt mode (g.Sum depth high L) (g.Sum (suc deep) unlimited U) (r.sum depth high P) (λ _. go 7)
   unfolding r.sum r.terms same_sign
   exact_sum =
       exact_then exact_coalesce
@@ -147,14 +144,14 @@ module _ (depth : ℕ) (high : ℕ → Bool) (L F : g.Inner) (P Q : r.Inner) (h 
 
   -- ---- 'if' and 'else'
 
-  exact_choice : IsExactUnless false (g.Choice depth high L) (g.Choice (suc depth) unlimited F) (r.choice depth high P) (r.choice (suc depth) unlimited Q) (λ _. go 5)
+  exact_choice : IsExactAt mode (g.Choice depth high L) (g.Choice (suc deep) unlimited U) (r.choice depth high P) (λ _. go 5)
   unfolding r.choice r.otherwise same_sign
   exact_choice =
       exact_then exact_sum
       (λ value. exact_choose
       (exact_behind (sign_of sign.If) (token.Sign sign.If) tt refl refl
       (λ _. exact_then exact_sum
-      (λ condition. exact_within (sign_of sign.Else) (token.Sign sign.Else) tt refl free (λ o s. or_right (high condition.height) (depth == 0) o) (λ _. exact_map (chosen value condition) h.expr))
+      (λ condition. exact_within (sign_of sign.Else) (token.Sign sign.Else) tt refl free (or_right (high condition.height) (depth == 0)) (λ _. exact_map (chosen value condition) h.expr))
       (λ condition. avoids_sign sign.Else refl)))
       (exact_pure value)
       (begins_then (begins_sign sign.If refl))
@@ -164,68 +161,55 @@ module _ (depth : ℕ) (high : ℕ → Bool) (L F : g.Inner) (P Q : r.Inner) (h 
   choice_begins : Begins starts (g.Choice depth high L)
   choice_begins = begins_then sum_begins
 
--- What is known of what is read with so many more parts that may be open.
-pub record Reads (depth : ℕ) (high : ℕ → Bool) : Type 0 where
-  pub expr : IsExactUnless false (g.within high depth).expr (g.within unlimited (suc depth)).expr (r.within high depth).expr (r.within unlimited (suc depth)).expr (λ _. go 5)
-  pub coalesce : IsExactUnless false (g.within high depth).coalesce (g.within unlimited (suc depth)).coalesce (r.within high depth).coalesce (r.within unlimited (suc depth)).coalesce (λ _. go 9)
-  pub unary : IsExactUnless false (g.within high depth).unary (g.within unlimited (suc depth)).unary (r.within high depth).unary (r.within unlimited (suc depth)).unary (λ _. never)
-  pub begins : Begins starts (g.within high depth).expr
+  pub levels_known : Known mode (g.levels depth high L) (g.levels (suc deep) unlimited U) (r.levels depth high P)
+  levels_known = record { expr = exact_choice; coalesce = exact_coalesce; unary = exact_unary; begins = choice_begins }
 
--- any list of tokens spells any expression
-anything : g.Inner
-anything = record { expr = λ ts x. Unit {0}; coalesce = λ ts x. Unit {0}; unary = λ ts x. Unit {0} }
+-- ---- some text of each level
 
--- with nothing that may be open, whatever is said of the open part
-closed : Opens zero g.nothing anything r.nothing r.nothing
-unfolding anything
-closed = record { expr = exact_shut all; coalesce = exact_shut all; unary = exact_shut all; begins = record { at = λ x a l. absurd l } }
-  where
-    all : Inhabited {T = Token} {A = Grown} (λ ts x. Unit {0})
-    all = record { text = []; value = leaf (e.Int 0); spelled = tt }
+module _ (depth : ℕ) (high : ℕ → Bool) (L : g.Inner) where
+  some_unary : Inhabited (g.Unary depth high L)
+  some_unary = some_right (some_right (some_right (some_left (some_then (some_one int_of (token.Int 0) 0 refl) (λ n. some_empty (leaf (e.Int n)))))))
 
--- some text is spelled with no part open: the reader says so
-some_unary : Inhabited (g.within unlimited zero).unary
-unfolding g.within r.unary r.atom same_sign
-some_unary =
-    let t = ((exact_unary zero unlimited g.nothing anything r.nothing r.nothing closed {on = λ _. never}).exact refl).takes (token.Int 0 ∷ []) (leaf (e.Int 0)) [] refl in
-    record { text = t.front; value = leaf (e.Int 0); spelled = t.spelled }
+  some_coalesce : Inhabited (g.Coalesce depth high L)
+  some_coalesce = some_then some_unary (λ left. some_right (some_empty left))
 
-some_coalesce : Inhabited (g.within unlimited zero).coalesce
-unfolding g.within r.coalesce r.unary r.atom same_sign
-some_coalesce =
-    let t = ((exact_coalesce zero unlimited g.nothing anything r.nothing r.nothing closed).exact refl).takes (token.Int 0 ∷ []) (leaf (e.Int 0)) [] refl in
-    record { text = t.front; value = leaf (e.Int 0); spelled = t.spelled }
+  some_expr : Inhabited (g.Choice depth high L)
+  some_expr = some_then (some_then some_coalesce (λ first. some_chain first)) (λ value. some_right (some_empty value))
 
-some_expr : Inhabited (g.within unlimited zero).expr
-unfolding g.within r.choice r.sum r.terms r.coalesce r.unary r.atom same_sign chain_from
-some_expr =
-    let t = ((exact_choice zero unlimited g.nothing anything r.nothing r.nothing closed).exact refl).takes (token.Int 0 ∷ []) (leaf (e.Int 0)) [] refl in
-    record { text = t.front; value = leaf (e.Int 0); spelled = t.spelled }
+-- ---- level by level
 
--- what is known of the parts that may stand open
-opens : (depth : ℕ) (high : ℕ → Bool) → Reads depth high → Opens (suc depth) (g.within high depth) (g.within unlimited (suc depth)) (r.within high depth) (r.within unlimited (suc depth))
-opens depth high x = record { expr = exact_any x.expr; coalesce = exact_any x.coalesce; unary = exact_any x.unary; begins = x.begins }
+nothing_known : (U : g.Inner) → Known Void g.nothing U r.nothing
+nothing_known U = record { expr = exact_void; coalesce = exact_void; unary = exact_void; begins = begins_never }
 
-pub reads : (depth : ℕ) (high : ℕ → Bool) → Reads depth high
+unread : (L U : g.Inner) (P : r.Inner) → Known Void L U P → Known Void L U r.nothing
+unread L U P k = record { expr = exact_unread k.expr; coalesce = exact_unread k.coalesce; unary = exact_unread k.unary; begins = k.begins }
+
+beyond_known : (high : ℕ → Bool) (spare deep : ℕ) → spare < deep → Known Void (g.beyond high spare) (g.within unlimited 0 deep) r.nothing
+unfolding g.beyond g.within
+beyond_known high spare zero lt = absurd (omega arith)
+beyond_known high zero (suc deep) lt = unread _ _ _ (levels_known Void 0 deep high g.nothing (g.within unlimited 0 deep) r.nothing (nothing_known (g.within unlimited 0 deep)))
+beyond_known high (suc spare) (suc deep) lt = unread _ _ _ (levels_known Void 0 deep high (g.beyond high spare) (g.within unlimited 0 deep) r.nothing (beyond_known high spare deep (omega arith)))
+
+-- a part that passes the limit is not read, but has some text
+shut_known : (high : ℕ → Bool) (spare deep : ℕ) → spare < deep → Known Shut (g.beyond high spare) (g.within unlimited 0 deep) r.nothing
+unfolding g.beyond
+shut_known high zero deep lt =
+    let k = beyond_known high zero deep lt in
+    record { expr = exact_shut (some_expr 0 high g.nothing) k.expr; coalesce = exact_shut (some_coalesce 0 high g.nothing) k.coalesce; unary = exact_shut (some_unary 0 high g.nothing) k.unary; begins = k.begins }
+shut_known high (suc spare) deep lt =
+    let k = beyond_known high (suc spare) deep lt in
+    record {
+      expr = exact_shut (some_expr 0 high (g.beyond high spare)) k.expr;
+      coalesce = exact_shut (some_coalesce 0 high (g.beyond high spare)) k.coalesce;
+      unary = exact_shut (some_unary 0 high (g.beyond high spare)) k.unary;
+      begins = k.begins;
+    }
+
+pub within_known : (high : ℕ → Bool) (spare depth deep : ℕ) → depth + spare + 1 < deep → Known Open (g.within high spare depth) (g.within unlimited 0 deep) (r.within high depth)
 unfolding g.within r.within
-reads zero high =
-    let none : Opens zero g.nothing (g.within unlimited zero) r.nothing (r.within unlimited zero) =
-    record { expr = exact_shut some_expr; coalesce = exact_shut some_coalesce; unary = exact_shut some_unary; begins = record { at = λ x a l. absurd l } } in
-    record {
-      expr = exact_choice zero high g.nothing (g.within unlimited zero) r.nothing (r.within unlimited zero) none;
-      coalesce = exact_coalesce zero high g.nothing (g.within unlimited zero) r.nothing (r.within unlimited zero) none;
-      unary = exact_unary zero high g.nothing (g.within unlimited zero) r.nothing (r.within unlimited zero) none;
-      begins = choice_begins zero high g.nothing (g.within unlimited zero) r.nothing (r.within unlimited zero) none;
-    }
-reads (suc depth) high =
-    let inner = opens depth high (reads depth high) in
-    record {
-      expr = exact_choice (suc depth) high (g.within high depth) (g.within unlimited (suc depth)) (r.within high depth) (r.within unlimited (suc depth)) inner;
-      coalesce = exact_coalesce (suc depth) high (g.within high depth) (g.within unlimited (suc depth)) (r.within high depth) (r.within unlimited (suc depth)) inner;
-      unary = exact_unary (suc depth) high (g.within high depth) (g.within unlimited (suc depth)) (r.within high depth) (r.within unlimited (suc depth)) inner;
-      begins = choice_begins (suc depth) high (g.within high depth) (g.within unlimited (suc depth)) (r.within high depth) (r.within unlimited (suc depth)) inner;
-    }
-
--- An expression with at most so many parts open is read exactly.
-pub exact_expr : (depth : ℕ) (high : ℕ → Bool) → IsExact (g.within high depth).expr (g.within unlimited (suc depth)).expr (r.within high depth).expr (r.within unlimited (suc depth)).expr (λ _. go 5)
-exact_expr depth high = (reads depth high).expr.exact refl
+within_known high spare depth zero lt = absurd (omega arith)
+within_known high spare zero (suc deep) lt = levels_known Open 0 deep high (g.beyond high spare) (g.within unlimited 0 deep) r.nothing (shut_known high spare deep (omega arith))
+within_known high spare (suc depth) (suc deep) lt =
+    let inner = within_known high spare depth deep (omega arith) in
+    levels_known Open (suc depth) deep high (g.within high spare depth) (g.within unlimited 0 deep) (r.within high depth)
+    (subst (λ (b : Bool). Known (lowered b Open) (g.within high spare depth) (g.within unlimited 0 deep) (r.within high depth)) (sym (eqb-suc-zero depth)) inner)

@@ -78,7 +78,12 @@ nothing = record { expr = Never; coalesce = Never; unary = Never }
 abbrev pub levels : ℕ → (ℕ → Bool) → Inner → Inner
 levels depth high inner = record { expr = Choice depth high inner; coalesce = Coalesce depth high inner; unary = Unary depth high inner }
 
--- What is spelled where so many more parts may be open.
-unfoldable pub within : (ℕ → Bool) → ℕ → Inner
-within high zero = levels zero high nothing
-within high (suc depth) = levels (suc depth) high (within high depth)
+-- What may stand in a part that passes the limit, where at most so many more are open in it.
+unfoldable pub beyond : (ℕ → Bool) → ℕ → Inner
+beyond high zero = levels zero high nothing
+beyond high (suc spare) = levels zero high (beyond high spare)
+
+-- What is spelled where `depth` more parts may be open, and at most `spare` more in one that passes this limit.
+unfoldable pub within : (ℕ → Bool) → ℕ → ℕ → Inner
+within high spare zero = levels zero high (beyond high spare)
+within high spare (suc depth) = levels (suc depth) high (within high spare depth)

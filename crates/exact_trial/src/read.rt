@@ -1,13 +1,13 @@
 //! The rules, each a method of `Grammar`. What reads an open part is a parameter, so that each rule is proved by itself.
 
-ghost use Rattle.std.specs.Prelude.{◌≡◌, ℕ, ◌<◌, ◌∷◌, ◌++◌, [], List, IfOk};
+ghost use Rattle.std.specs.Prelude.{◌≡◌, ℕ,  ◌<◌, ◌∷◌, ◌++◌, [], List, IfOk};
 ghost use Rattle.exact.specs.Reading.{Reads, whole};
-ghost use Rattle.exact.specs.Promise.{IsRefused};
+ghost use Rattle.exact.specs.Promise.{Spells, IsRefused};
 ghost use Rattle.exact.specs.declared.rule.Rule.{Rule};
 ghost use Rattle.exact_trial.specs.Readers as spec;
 ghost use Rattle.exact_trial.specs.Trees.{too_high, above, leaf, negated, joined, chosen, alone, added, collected};
 ghost use Rattle.exact_trial.specs.Nests.{Nests};
-ghost use Rattle.exact_trial.specs.Promise.{Spells, IsExpr, IsRead};
+ghost use Rattle.exact_trial.specs.Promise.{Text, IsRead};
 ghost use Rattle.exact_trial.specs.declared.token.Token.{Token};
 ghost use Rattle.exact_trial.specs.declared.tree.Grown.{Grown};
 
@@ -334,11 +334,11 @@ fn whole(alloc: Global, tokens: &mut Tokens<'_>) -> Result<Grown, ReadError>
 /// The expression that the tokens spell.
 pub fn parse(alloc: Global, tokens: &[Token]) -> Result<Grown, Refusal>
     // What is read is spelled so.
-    ensures found { IfOk result (λ x. Spells tokens.now x) }
+    ensures found { IfOk result (λ x. Spells Text tokens.now x) }
     // What is spelled so is read, unless memory runs out.
-    ensures only { (x : Grown) → Spells tokens.now x → IsRead result x }
+    ensures only { (x : Grown) → Spells Text tokens.now x → IsRead result x }
     // A refusal names the token, and says whether it is dead or passes a limit.
-    ensures refused { (rule : Rule) (k : ℕ) → result ≡ Err (Refusal.Syntax rule k) → IsRefused Spells IsExpr tokens.now rule k }
+    ensures refused { (rule : Rule) (k : ℕ) → result ≡ Err (Refusal.Syntax rule k) → IsRefused Text tokens.now rule k }
 {
     let mut cursor = Tokens::new(tokens);
     match whole(alloc, &mut cursor) {
@@ -351,7 +351,12 @@ pub fn parse(alloc: Global, tokens: &[Token]) -> Result<Grown, Refusal>
     }
 }
 
-/// Each text spells at most one expression.
+/// Each text spells at most one expression, whatever limits it passes.
 pub fn one_tree()
-    ensures { (ts : List Token) (x y : Grown) → IsExpr ts x → IsExpr ts y → x ≡ y }
+    ensures { (ts : List Token) (x y : Grown) → Text 0 ts x → Text 0 ts y → x ≡ y }
+{}
+
+/// Each text is refused at most at one token, for one reason.
+pub fn one_refusal()
+    ensures { (ts : List Token) (r q : Rule) (j k : ℕ) → IsRefused Text ts r j → IsRefused Text ts q k → (r ≡ q) × (j ≡ k) }
 {}

@@ -1,11 +1,11 @@
 //! A cursor over the tokens of a text.
 
 ghost use Rattle.std.specs.Prelude.{◌≡◌, length, not};
-ghost use Rattle.exact.specs.Reading.{Reads, heads, one_within, one, inside};
+ghost use Rattle.exact.specs.Reading.{Takes, heads, one_within, one, inside};
 ghost use Rattle.exact_trial.specs.Words.{is, sign_of, name_of, int_of, Finds};
 
 use crate::token::{Sign, Token};
-use exact::{ReadError, Rule};
+use exact::Rule;
 use std::marker::Model;
 
 #[derive(Drop)]
@@ -64,30 +64,30 @@ impl<'a> Tokens<'a> {
     }
 
     /// Takes the sign, which is too deep where `over` says so.
-    pub fn expect(&mut self, over: bool, sign: Sign) -> Result<(), ReadError>
-        ensures { Reads (one_within over (sign_of sign) self.old) result self.new }
+    pub fn expect(&mut self, over: bool, sign: Sign) -> Result<(), Rule>
+        ensures { Takes (one_within over (sign_of sign) self.old) result self.new }
     {
         match self.rest {
             [Token::Sign(next), rest @ ..] if same(sign, *next) => {
                 if over {
-                    return Err(ReadError::Refused(Rule::TooDeep));
+                    return Err(Rule::TooDeep);
                 }
                 self.rest = rest;
                 Ok(())
             }
-            _ => Err(ReadError::Refused(Rule::Unexpected)),
+            _ => Err(Rule::Unexpected),
         }
     }
 
-    pub fn name(&mut self) -> Result<u32, ReadError>
-        ensures { Reads (one name_of self.old) result self.new }
+    pub fn name(&mut self) -> Result<u32, Rule>
+        ensures { Takes (one name_of self.old) result self.new }
     {
         match self.rest {
             [Token::Name(name), rest @ ..] => {
                 self.rest = rest;
                 Ok(*name)
             }
-            _ => Err(ReadError::Refused(Rule::Unexpected)),
+            _ => Err(Rule::Unexpected),
         }
     }
 
