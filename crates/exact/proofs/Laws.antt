@@ -1,13 +1,12 @@
 -- The laws with which a production is shown exact: one for each way to put languages and readers together.
 -- Languages, readers and sets are left out of a call, since antt finds them.
-use Rattle.std.proofs.Common.{◌≡◌, ℕ, zero, suc, ◌+◌, ◌-◌, ◌≤◌, ◌<◌, Bool, true, false, cond, List, [], ◌∷◌, ◌++◌, length, Option, Some, None, refl, sym, ap, subst, ◌∙◌, append_assoc, arith, inl, inr}
+use Rattle.std.proofs.Common.{◌≡◌, ℕ, zero, suc, ◌-◌, ◌≤◌, ◌<◌, Bool, true, false, List, [], ◌∷◌, ◌++◌, length, Option, Some, refl, sym, ap, subst, ◌∙◌, append_assoc, arith, inl, inr}
 use Rattle.std.proofs.lemmas.List.{length-append}
 use Rattle.exact.specs.declared.rule.Rule.{Rule}
-use Rattle.exact.specs.declared.rule.Rule.TheVariants.{Unexpected, TooDeep}
 use Rattle.exact.specs.Language.{Lang, Empty, Never, One, OneWithin, Then, Either, Links, Chain, Step, More, Done, Onward, Turns, Loop, Item, Items}
-use Rattle.exact.specs.Reading.{Outcome, Got, Stop, Reader, and_then, ◌>>=◌, ◌>>◌, pure, refuse, heads, one, one_within, choose, chain, onward, loop, inside, item, items}
-use Rattle.exact.proofs.Heads.{Begins, Avoids, Covers, Apart, never, heads_never, BeginsIn, begins_one_within, begins_then, avoids_none, avoids_empty, avoids_begins, avoids_either, avoids_loop}
-use Rattle.exact.proofs.Exact.{IsExact, Took, Stopped, Keeps, keeps_longer, Inhabited, Reaches, Passes, none_of, pure_is, one_within_is, then_is, choose_is, alike_is, weaken_is}
+use Rattle.exact.specs.Reading.{Outcome, Got, Stop, Reader, and_then, ◌>>=◌, pure, one, one_within, choose, chain, onward, loop, inside, item, items}
+use Rattle.exact.proofs.Heads.{Begins, Avoids, Covers, Apart, never, heads_never, begins_one_within, begins_then, avoids_none, avoids_empty, avoids_begins, avoids_either, avoids_loop}
+use Rattle.exact.proofs.Exact.{IsExact, Took, Stopped, keeps_longer, Inhabited, Reaches, none_of, pure_is, one_within_is, then_is, choose_is, alike_is, weaken_is}
 use Rattle.exact.proofs.Loop.{loop_is, chain_is}
 
 -- What is known of a place in the grammar.

@@ -1,12 +1,12 @@
 -- A loop of steps, of which the last says that the loop is over: any loop that unrolls so is exact.
-use Rattle.std.proofs.Common.{◌≡◌, ℕ, zero, suc, ◌+◌, ◌-◌, ◌≤◌, ◌<◌, Bool, true, false, cond, List, [], ◌∷◌, ◌++◌, length, refl, sym, ap, subst, ◌∙◌, append_assoc, arith, inl, inr}
+use Rattle.std.proofs.Common.{◌≡◌, ℕ, zero, suc, ◌-◌, ◌≤◌, ◌<◌, Bool, true, false, cond, List, [], ◌∷◌, ◌++◌, length, refl, sym, ap, subst, ◌∙◌, append_assoc, arith, inl, inr}
 use Rattle.std.proofs.lemmas.List.{length-append, append-nil}
 use Rattle.exact.specs.declared.rule.Rule.{Rule}
-use Rattle.exact.specs.declared.rule.Rule.TheVariants.{Unexpected, TooDeep}
+use Rattle.exact.specs.declared.rule.Rule.TheVariants.{TooDeep}
 use Rattle.exact.specs.Language.{Lang, Empty, Then, Either, Step, More, Done, Onward, Turns, Loop, Links, Chain}
 use Rattle.exact.specs.Reading.{Outcome, Got, Stop, Reader, and_then, ◌>>=◌, pure, heads, choose, onward, loop_from, loop, chain_from, chain}
-use Rattle.exact.proofs.Heads.{SameHead, same_head_behind, same_head_of, heads_less, BeginsIn, begins_long, begins_longer, Begins, Avoids, avoids_empty, Covers, Apart, heads_apart}
-use Rattle.exact.proofs.Exact.{IsExact, Took, Stopped, Keeps, keeps_longer, Inhabited, Passes, Reaches, left_of, none_of, pure_is, then_is, choose_is, alike_is}
+use Rattle.exact.proofs.Heads.{SameHead, same_head_behind, same_head_of, heads_less, begins_long, begins_longer, Begins, Avoids, avoids_empty, Covers, Apart, heads_apart}
+use Rattle.exact.proofs.Exact.{IsExact, Keeps, keeps_longer, Inhabited, Passes, Reaches, left_of, none_of, pure_is, then_is, choose_is, alike_is}
 
 module _ {T A R : Type 0} (S : A → Lang T (Step A R)) (step : A → Reader T (Step A R)) (run : ℕ → A → Reader T R) (go : R → T → Bool) (goS : Step A R → T → Bool)
     (p : (a : A) → IsExact (S a) (step a) goS)
@@ -93,9 +93,12 @@ module _ {T A R : Type 0} (S : A → Lang T (Step A R)) (step : A → Reader T (
   -- a step that was stopped can be completed, and then the loop
   completed : (a : A) (front more : List T) (o : Step A R) → S a (length front) (front ++ more) o → (y : List T) × (r : R) × Loop S a (length front) (front ++ (more ++ y)) r
   completed a front more (More b) s =
-      let l = some b in
-      (l.text, l.value, subst (λ (z : List T). Loop S a (length front) z l.value) (append_assoc front more l.text)
-        (more_turns (length front) a b (front ++ more) l.text l.value s (subst (λ (k : ℕ). Loop S b k l.text l.value) (sym (none_of front more)) l.spelled)))
+      let l = some b in (
+        l.text,
+        l.value,
+        subst (λ (z : List T). Loop S a (length front) z l.value) (append_assoc front more l.text)
+            (more_turns (length front) a b (front ++ more) l.text l.value s (subst (λ (k : ℕ). Loop S b k l.text l.value) (sym (none_of front more)) l.spelled)),
+      )
   completed a front more (Done r) s = ([], r, subst (λ (z : List T). Loop S a (length front) (front ++ z) r) (sym (append-nil more)) (last_turn (length front) a (front ++ more) r s))
 
   stops_turn : (next : A → Reader T R) (a : A) (ts : List T) (rule : Rule) (rest : List T) → ((b : A) (mid : List T) → length mid < length ts → next b mid ≡ Stop rule rest → StoppedLoop b mid rule rest)
@@ -110,7 +113,7 @@ module _ {T A R : Type 0} (S : A → Lang T (Step A R)) (step : A → Reader T (
         more = s.more;
         value = s.value;
         viable = subst (λ (z : List T). Loop S a (length (f.front ++ s.front)) z s.value) (sym (append_assoc f.front s.front s.more))
-          (more_turns (length (f.front ++ s.front)) a b f.front (s.front ++ s.more) s.value (f.spelled (length (f.front ++ s.front))) (subst (λ (k : ℕ). Loop S b k (s.front ++ s.more) s.value) (sym (left_of f.front s.front)) s.viable));
+            (more_turns (length (f.front ++ s.front)) a b f.front (s.front ++ s.more) s.value (f.spelled (length (f.front ++ s.front))) (subst (λ (k : ℕ). Loop S b k (s.front ++ s.more) s.value) (sym (left_of f.front s.front)) s.viable));
         keeps = s.keeps;
         again = λ k q same le.
             let same_mid = same_head_of mid (s.front ++ rest) (s.front ++ q) s.parts (same_head_behind s.front rest q same) in
@@ -144,7 +147,7 @@ module _ {T A R : Type 0} (S : A → Lang T (Step A R)) (step : A → Reader T (
   loop_complete zero j n a x r rest t stop le = absurd t
   loop_complete (suc k) j n a x r rest t stop le =
       subst (λ (z : List T). Reaches n x r rest (run j a z)) (sym shape) (subst (λ (z : List T). Reaches n z r rest (run j a (t.front ++ (t.back ++ rest)))) (sym t.parts)
-        (by_step t.value t.first t.second (λ b turns i short. loop_complete k i (n - length t.front) b t.back r rest turns stop short)))
+      (by_step t.value t.first t.second (λ b turns i short. loop_complete k i (n - length t.front) b t.back r rest turns stop short)))
     where
       shape : x ++ rest ≡ t.front ++ (t.back ++ rest)
       shape = ap (λ (z : List T). z ++ rest) t.parts ∙ append_assoc t.front t.back rest

@@ -1,14 +1,14 @@
 -- From exactness to what is promised: at most one value for a text, what is found, that only that is found, and where a text is refused.
-use Rattle.std.proofs.Common.{◌≡◌, ℕ, zero, suc, ◌+◌, ◌-◌, ◌≤◌, ◌<◌, Bool, true, false, cond, List, [], ◌∷◌, ◌++◌, length, take, refl, sym, ap, subst, ◌∙◌, append_assoc, arith, inl, inr, ◌⊎◌}
+use Rattle.std.proofs.Common.{◌≡◌, ℕ, zero, suc, ◌+◌, ◌≤◌, ◌<◌, Bool, true, false, cond, List, [], ◌∷◌, ◌++◌, length, take, refl, sym, ap, subst, ◌∙◌, arith, inl, inr, ◌⊎◌}
 use Rattle.std.proofs.lemmas.Bool.{cases_lt}
 use Rattle.std.proofs.lemmas.List.{length-append, append-nil}
 use Rattle.exact.specs.declared.rule.Rule.{Rule}
 use Rattle.exact.specs.declared.rule.Rule.TheVariants.{Unexpected, TooDeep}
 use Rattle.exact.specs.Language.{Lang}
-use Rattle.exact.specs.Reading.{Outcome, Got, Stop, Reader, and_then, ◌>>=◌, heads, end_behind, whole}
+use Rattle.exact.specs.Reading.{Outcome, Got, Stop, Reader, and_then, heads, end_behind, whole}
 use Rattle.exact.specs.Promise.{IsDead, IsAlive, IsAliveThrough, IsRefused, IsPrefix, Any, Ended, Spells}
 use Rattle.exact.proofs.Heads.{SameHead, SameToken}
-use Rattle.exact.proofs.Exact.{IsExact, Took, Stopped, Keeps, Passes, Reaches, reaches_got}
+use Rattle.exact.proofs.Exact.{IsExact, Stopped, Keeps, Reaches, reaches_got}
 use Rattle.exact.proofs.Laws.{Loosens, Grows}
 
 -- ---- lists that agree up to and including the token behind a front
@@ -245,7 +245,7 @@ module _ {T A : Type 0} (L : ℕ → Lang T A) (P : Reader T A) (go : A → T �
             again = λ r same.
                 let no_more : r ≡ [] = same_end r (subst (λ (z : List T). SameHead z r) (sym none) same) in
                 subst (λ (z : List T). whole tall P (f.front ++ z) ≡ Stop rule z) (sym no_more)
-                  (behind f.front [] a (f.again [] tt) ∙ ap (λ (b : Bool). cond b (Stop TooDeep []) (Got a [])) high ∙ ap (λ (w : Rule). Stop w []) why);
+                (behind f.front [] a (f.again [] tt) ∙ ap (λ (b : Bool). cond b (Stop TooDeep []) (Got a [])) high ∙ ap (λ (w : Rule). Stop w []) why);
             more = [];
             value = a;
             viable = subst (λ (z : List T). L 0 (length f.front) z a × (length z < length f.front → tall a ≡ false)) (sym (append-nil f.front)) (f.spelled (length f.front), past f.front a);

@@ -1,22 +1,20 @@
 -- The readers are exact for the grammar.
-use Rattle.std.proofs.Common.{◌≡◌, ℕ, zero, suc, ◌+◌, ◌≤◌, ◌<◌, Bool, true, false, cond, ◌||◌, ◌==◌, List, [], ◌∷◌, Option, Some, None, refl, sym, ap, ◌∙◌, subst, arith}
-use Rattle.std.proofs.Math.Dec.{eqb, eqb-suc-zero}
+use Rattle.std.proofs.Common.{◌≡◌, ℕ, zero, suc, ◌+◌, ◌<◌, Bool, true, false, ◌||◌, ◌==◌, [], refl, sym, subst, arith}
+use Rattle.std.proofs.Math.Dec.{eqb-suc-zero}
 use Rattle.exact_trial.specs.declared.token.Token.{Token}
 use Rattle.exact_trial.specs.declared.token.Token.TheVariants as token
 use Rattle.exact_trial.specs.declared.token.Sign.TheVariants as sign
 use Rattle.exact_trial.specs.declared.tree.Expr.TheVariants as e
 use Rattle.exact_trial.specs.declared.tree.Operator.TheVariants as op
 use Rattle.exact_trial.specs.declared.tree.Grown.{Grown}
-use Rattle.exact_trial.specs.declared.tree.Bunch.{Bunch}
 use Rattle.exact_trial.specs.Words.{same_sign, is, sign_of, name_of, int_of}
-use Rattle.exact_trial.specs.Trees.{leaf, negated, joined, chosen, alone, added, collected, unlimited}
+use Rattle.exact_trial.specs.Trees.{leaf, negated, joined, chosen, collected, unlimited}
 use Rattle.exact_trial.specs.Grammar as g
 use Rattle.exact_trial.specs.Readers as r
-use Rattle.exact.specs.Language.{Lang, Empty, One, OneWithin, Then, Either, Chain, Items}
-use Rattle.exact.specs.Reading.{Reader, pure, has, one, one_within, choose, chain, chain_from, inside}
-use Rattle.exact.proofs.Heads.{begins_never, begins_one, avoids_begun, Begins, Avoids, never, begins_then, begins_either, begins_in, avoids_begins, avoids_empty, avoids_either, avoids_none, avoids_chain, avoids_then}
-use Rattle.exact.proofs.Exact.{Inhabited, IsExact}
-use Rattle.exact.proofs.Laws.{Mode, Open, Shut, Void, lowered, IsExactAt, exact_void, some_empty, some_one, some_then, some_left, some_right, some_chain, exact_pure, exact_one, exact_then, exact_map, exact_lead, exact_open, exact_behind, exact_within, exact_choose, exact_chain, exact_items, exact_closed, exact_any, exact_unread, exact_shut, exact_weaken}
+use Rattle.exact.specs.Language.{Lang, Empty, One, OneWithin, Then, Either}
+use Rattle.exact.proofs.Heads.{begins_never, begins_one, avoids_begun, Begins, never, begins_then, begins_either, begins_in, avoids_begins, avoids_empty, avoids_either, avoids_none, avoids_chain}
+use Rattle.exact.proofs.Exact.{Inhabited}
+use Rattle.exact.proofs.Laws.{Mode, Open, Shut, Void, lowered, IsExactAt, exact_void, some_empty, some_one, some_then, some_left, some_right, some_chain, exact_pure, exact_then, exact_map, exact_lead, exact_open, exact_behind, exact_within, exact_choose, exact_chain, exact_items, exact_closed, exact_unread, exact_shut}
 use Rattle.exact_trial.proofs.Sets.{avoids_sign, in_starts, go, starts, at_sign, covers_sign, lacks_sign, closes_sign, sign_some, begins_sign, begins_name, begins_int, tighter}
 
 -- What is known of the languages and readers of a level, U being the same with no limit passed.

@@ -1,9 +1,9 @@
 -- What is promised of the reader of expressions.
-use Rattle.std.proofs.Common.{◌≡◌, ℕ, suc, ◌+◌, ◌≤◌, Bool, List, [], length, arith}
+use Rattle.std.proofs.Common.{◌≡◌, ℕ, suc, ◌+◌, ◌≤◌, List, [], length, arith}
 use Rattle.exact.specs.declared.rule.Rule.{Rule}
 use Rattle.exact.specs.Language.{Lang}
 use Rattle.exact.specs.Reading.{Reader, Got, Stop, whole}
-use Rattle.exact.specs.Promise.{Spells, IsRefused, Any, Ended}
+use Rattle.exact.specs.Promise.{Spells, IsRefused, Ended}
 use Rattle.exact.proofs.Exact.{IsExact}
 use Rattle.exact.proofs.Laws.{Grows, Loosens}
 use Rattle.exact.proofs.Whole.{one_value_alone, whole_found, whole_only, whole_refused, whole_left, refused_once, any_loosens, ended_loosens}

@@ -1,14 +1,13 @@
 -- The grammar: which tokens spell which expression, with at most so many parts open at once, and nothing behind what is too high.
-use Rattle.std.specs.Prelude.{ℕ, zero, suc, Bool, ◌==◌, ◌||◌, List, []}
+use Rattle.std.specs.Prelude.{ℕ, zero, suc, Bool, ◌==◌, ◌||◌, []}
 use Rattle.exact_trial.specs.declared.token.Token.{Token}
 use Rattle.exact_trial.specs.declared.token.Sign.TheVariants as sign
 use Rattle.exact_trial.specs.declared.tree.Expr.TheVariants as e
 use Rattle.exact_trial.specs.declared.tree.Operator.TheVariants as op
 use Rattle.exact_trial.specs.declared.tree.Grown.{Grown}
-use Rattle.exact_trial.specs.declared.tree.Bunch.{Bunch}
-use Rattle.exact_trial.specs.Words.{is, sign_of, name_of, int_of}
+use Rattle.exact_trial.specs.Words.{sign_of, name_of, int_of}
 use Rattle.exact_trial.specs.Trees.{leaf, negated, joined, chosen, alone, added, collected}
-use Rattle.exact.specs.Language.{Lang, ◌>>=◌, ◌>>◌, Never, Empty, One, OneWithin, Then, Either, Chain, Items}
+use Rattle.exact.specs.Language.{Lang, ◌>>=◌, ◌>>◌, Never, Empty, One, OneWithin, Either, Chain, Items}
 
 -- What may stand in an open part.
 pub record Inner : Type 1 where

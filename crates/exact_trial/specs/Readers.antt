@@ -1,5 +1,5 @@
 -- Reading an expression from the left, with one token to look at.
-use Rattle.std.specs.Prelude.{ℕ, zero, suc, Bool, ◌==◌, ◌||◌, List, []}
+use Rattle.std.specs.Prelude.{ℕ, zero, suc, Bool, ◌==◌, ◌||◌, []}
 use Rattle.exact.specs.declared.rule.Rule.TheVariants.{TooDeep}
 use Rattle.exact_trial.specs.declared.token.Token.{Token}
 use Rattle.exact_trial.specs.declared.token.Sign.TheVariants as sign

@@ -1,5 +1,5 @@
 -- What is built of what was read, and how high it is.
-use Rattle.std.specs.Prelude.{ℕ, suc, Bool, false, max, ltb, List, [], ◌∷◌, ◌++◌, if◌then◌else◌}
+use Rattle.std.specs.Prelude.{ℕ, suc, Bool, false, max, ltb, [], ◌∷◌, ◌++◌, if◌then◌else◌}
 use Rattle.exact_trial.specs.declared.tree.Expr.{Expr}
 use Rattle.exact_trial.specs.declared.tree.Expr.TheVariants as e
 use Rattle.exact_trial.specs.declared.tree.Operator.{Operator}

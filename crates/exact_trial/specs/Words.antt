@@ -6,7 +6,6 @@ use Rattle.exact_trial.specs.contracts.token.Sign.{the_type}
 use Rattle.exact_trial.specs.declared.token.Token.{Token}
 use Rattle.exact_trial.specs.declared.token.Token.TheVariants as token
 use Rattle.exact_trial.specs.declared.token.Sign.{Sign}
-use Rattle.exact_trial.specs.declared.token.Sign.TheVariants as sign
 
 unfoldable pub same_sign : Sign → Sign → Bool
 same_sign = sameb the_type

@@ -3,6 +3,8 @@
 
 pub mod read;
 mod refusal;
+#[cfg(test)]
+mod tests;
 mod token;
 mod tokens;
 mod tree;

@@ -1,6 +1,6 @@
 //! The rules, each a method of `Grammar`. What reads an open part is a parameter, so that each rule is proved by itself.
 
-ghost use Rattle.std.specs.Prelude.{◌≡◌, ℕ,  ◌<◌, ◌∷◌, ◌++◌, [], List, IfOk};
+ghost use Rattle.std.specs.Prelude.{◌≡◌, ℕ, ◌<◌, ◌∷◌, ◌++◌, [], List, IfOk};
 ghost use Rattle.exact.specs.Reading.{Reads, whole};
 ghost use Rattle.exact.specs.Promise.{Spells, IsRefused};
 ghost use Rattle.exact.specs.declared.rule.Rule.{Rule};

@@ -1,11 +1,8 @@
 use Rattle.std.proofs.Common.{arith, ◌≡◌, ◌+◌, ◌-◌, [], length, ◌∙◌, sym, ap, subst}
 use Rattle.exact.specs.declared.rule.Rule.{Rule}
-use Rattle.exact.specs.Reading.{Outcome, Got, Stop, whole}
-use Rattle.exact_trial.specs.declared.read.TheConstants.{MAX_OPEN}
+use Rattle.exact.specs.Reading.{Outcome, Got, Stop}
 use Rattle.exact_trial.specs.declared.token.Token.{Token}
 use Rattle.exact_trial.specs.declared.tree.Grown.{Grown}
-use Rattle.exact_trial.specs.Trees.{too_high}
-use Rattle.exact_trial.specs.Readers.{within}
 use Rattle.exact_trial.proofs.Promise.{found, only, refused, left_over, all}
 use Rattle.exact_trial.proofs.read.parse.Goals as goal
 
