@@ -24,10 +24,6 @@ pub record Known (mode : Mode) (L U : g.Inner) (P : r.Inner) : Type 0 where
   pub unary : IsExactAt mode L.unary U.unary P.unary (λ _. never)
   pub begins : Begins starts L.expr
 
-or_left : (a b : Bool) → (a || b) ≡ false → a ≡ false
-or_left true b h = absurd cc
-or_left false b h = refl
-
 or_right : (a b : Bool) → (a || b) ≡ false → b ≡ false
 or_right true b h = absurd cc
 or_right false b h = h
