@@ -5,10 +5,14 @@ use Rattle.std.proofs.lemmas.Slice.Eq.{bytes_eq-Decides}
 use Rattle.ev_lex.specs.declared.keyword.Keyword.{Keyword}
 use Rattle.ev_lex.specs.declared.keyword.Keyword.TheVariants as keyword
 use Rattle.ev_lex.specs.declared.keyword.TheConstants.{KEYWORDS}
-use Rattle.ev_lex.specs.Keyword.{keyword_text, IsWordOf, keyword_at}
+use Rattle.ev_lex.specs.Keyword.{keyword_text, keywords, IsWordOf, keyword_at, keyword_of}
 
-abbrev pub table : List (List ℕ × Keyword)
-table = map (λ k. (k.0.now, k.1)) KEYWORDS
+abbrev table : List (List ℕ × Keyword)
+table = map (λ k. (keyword_text k, k)) keywords
+
+-- the code's table
+pub table_same : map (λ k. (k.0.now, k.1)) KEYWORDS ≡ table
+table_same = refl
 
 -- each entry has the letters of its keyword
 abbrev IsRight : List (List ℕ × Keyword) → Type 0
@@ -28,7 +32,8 @@ sound_in (e ∷ more) word k r h =
     either_way (str_eq_ignore_ascii_case e.0 word) e.1 k (keyword_at more word) (λ x. IsWordOf x word)
     (λ t. sym ((bytes_eq-Decides (str_to_ascii_lowercase e.0) (str_to_ascii_lowercase word)).0 t) ∙ r.0) (sound_in more word k r.1) h
 
-pub keyword_sound : (word : List ℕ) (k : Keyword) → keyword_at table word ≡ Some k → IsWordOf k word
+pub keyword_sound : (word : List ℕ) (k : Keyword) → keyword_of word ≡ Some k → IsWordOf k word
+unfolding keyword_of
 keyword_sound word k h = sound_in table word k table_right h
 
 -- words of the same letters are found alike
@@ -166,5 +171,11 @@ found keyword.Using = refl
 found keyword.Read = refl
 found keyword.Write = refl
 
-pub keyword_found : (word : List ℕ) (k : Keyword) → IsWordOf k word → keyword_at table word ≡ Some k
+pub keyword_found : (word : List ℕ) (k : Keyword) → IsWordOf k word → keyword_of word ≡ Some k
+unfolding keyword_of
 keyword_found word k h = alike table word (keyword_text k) (h ∙ sym (small k)) ∙ found k
+
+-- what the code finds in its table
+pub keyword_of_table : (word : List ℕ) → keyword_at (map (λ k. (k.0.now, k.1)) KEYWORDS) word ≡ keyword_of word
+unfolding keyword_of
+keyword_of_table word = ap (λ t. keyword_at t word) table_same

@@ -1,5 +1,5 @@
 -- Keywords: the words that the grammars name.
-use Rattle.std.specs.Prelude.{◌≡◌, ℕ, Bool, true, false, List, [], ◌∷◌, Option, Some, None, if◌then◌else◌, codes}
+use Rattle.std.specs.Prelude.{◌≡◌, ℕ, Bool, true, false, List, [], ◌∷◌, map, Option, Some, None, if◌then◌else◌, codes}
 use Rattle.std.specs.Str.{str_eq_ignore_ascii_case, str_to_ascii_lowercase}
 use Rattle.ev_lex.specs.declared.keyword.Keyword.{Keyword}
 use Rattle.ev_lex.specs.declared.keyword.Keyword.TheVariants as keyword
@@ -106,7 +106,26 @@ is_reserved keyword.Read = false
 is_reserved keyword.Write = false
 is_reserved _ = true
 
--- the first entry of a table of words, without regard to case
+-- all of them
+abbrev pub keywords : List Keyword
+keywords =
+    keyword.Select ∷ keyword.With ∷ keyword.Filter ∷ keyword.Order ∷ keyword.By ∷ keyword.Offset ∷
+    keyword.Limit ∷ keyword.For ∷ keyword.In ∷ keyword.Union ∷ keyword.If ∷ keyword.Else ∷ keyword.And ∷
+    keyword.Or ∷ keyword.Not ∷ keyword.Exists ∷ keyword.Distinct ∷ keyword.Is ∷ keyword.Global ∷
+    keyword.Optional ∷ keyword.Required ∷ keyword.Single ∷ keyword.Multi ∷ keyword.True ∷ keyword.False ∷
+    keyword.Like ∷ keyword.Ilike ∷ keyword.Intersect ∷ keyword.Except ∷ keyword.Insert ∷ keyword.Update ∷
+    keyword.Delete ∷ keyword.Group ∷ keyword.Asc ∷ keyword.Desc ∷ keyword.Empty ∷ keyword.First ∷
+    keyword.Last ∷ keyword.Then ∷ keyword.Module ∷ keyword.Abstract ∷ keyword.Type ∷ keyword.Extending ∷
+    keyword.Property ∷ keyword.Link ∷ keyword.Index ∷ keyword.On ∷ keyword.Annotation ∷ keyword.Overloaded ∷
+    keyword.Delegated ∷ keyword.Constraint ∷ keyword.Default ∷ keyword.Target ∷ keyword.Restrict ∷
+    keyword.Access ∷ keyword.Policy ∷ keyword.Allow ∷ keyword.Deny ∷ keyword.All ∷ keyword.Using ∷
+    keyword.Read ∷ keyword.Write ∷ []
+
+-- the first entry of a table of words that is the word, without regard to case
 abbrev pub keyword_at : List (List ℕ × Keyword) → List ℕ → Option Keyword
 keyword_at [] word = None
 keyword_at (e ∷ more) word = if str_eq_ignore_ascii_case e.0 word then Some e.1 else keyword_at more word
+
+-- the keyword that a word is, without regard to case
+unfoldable pub keyword_of : List ℕ → Option Keyword
+keyword_of word = keyword_at (map (λ k. (keyword_text k, k)) keywords) word

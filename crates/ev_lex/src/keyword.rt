@@ -1,7 +1,7 @@
 //! Keywords: the words that the grammars name.
 ghost use Rattle.std.specs.Prelude.{◌≡◌, ◌↔◌, Some, None, map};
 ghost use Rattle.std.specs.Str.{str_eq_ignore_ascii_case};
-ghost use Rattle.ev_lex.specs.Keyword.{IsWordOf, is_reserved, keyword_at};
+ghost use Rattle.ev_lex.specs.Keyword.{IsWordOf, is_reserved, keyword_at, keyword_of};
 ghost use Rattle.ev_lex.specs.declared.keyword.Keyword.{Keyword};
 
 /// A word that a grammar names. The EdgeDB documentation's page on reserved keywords has more; only these are words of this language.
@@ -160,7 +160,8 @@ fn entry(mut table: &[(&[u8], Keyword)], word: &[u8]) -> Option<Keyword>
 
 /// The keyword that a word is, without regard to case.
 pub fn keyword_of(word: &str) -> Option<Keyword>
-    ensures { (k : Keyword) → (result ≡ Some k) ↔ IsWordOf k word.now }
+    ensures value { result ≡ keyword_of word.now }
+    ensures word { (k : Keyword) → (result ≡ Some k) ↔ IsWordOf k word.now }
 {
     entry(&KEYWORDS, word.as_bytes())
 }
