@@ -90,11 +90,16 @@ item_of_op op.And vs = fitting (truths_in vs) (λ (a, b). bool_item (a && b))
 item_of_op op.Or vs = fitting (truths_in vs) (λ (a, b). bool_item (a || b))
 item_of_op op.Not vs = fitting (truth_in vs) (λ a. bool_item (not a))
 
--- a call of an operator answers the item that is due, or nothing for want of memory
+-- an item that is a text, the one kind of value that takes memory
+abbrev pub IsText : Item Val → Type 0
+IsText (item.Value (val.Str s)) = Unit {0}
+IsText _ = ⊥
+
+-- a call of an operator answers the item that is due, and may want memory only where that is a text
 abbrev pub IsGiven : Result Val OpError → Item Val → Type 0
 IsGiven (Ok v) due = due ≡ item.Value v
 IsGiven (Err (op_error.Fault e)) due = due ≡ item.Fault e
-IsGiven (Err op_error.Memory) due = Unit {0}
+IsGiven (Err op_error.Memory) due = IsText due
 
 -- a look at the operands finds what is there, or tells that they do not fit
 abbrev pub IsFound : {A : Type 0} → Result A OpError → Option A → Type 0

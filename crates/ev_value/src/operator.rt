@@ -36,7 +36,7 @@ pub enum Op {
 #[derive(Clone, Copy)]
 pub enum OpError {
     Fault(Fault),
-    /// Want of memory, which may come anywhere.
+    /// Want of memory, which comes only where a text is to be made.
     Memory,
 }
 
