@@ -1,0 +1,4 @@
+pub mod Sets
+pub mod Exact
+pub mod Promise
+pub mod Depth
