@@ -1,0 +1,9 @@
+pub mod Closing
+pub mod Cuts
+pub mod Front
+pub mod Keywords
+pub mod Literals
+pub mod Ranks
+pub mod Readings
+pub mod Separators
+pub mod Tokens

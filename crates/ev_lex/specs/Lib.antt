@@ -1,0 +1,9 @@
+pub mod Byte
+pub mod Cut
+pub mod Keyword
+pub mod Literal
+pub mod Reading
+pub mod Separator
+pub mod Sign
+pub mod SignTable
+pub mod Token

@@ -1,0 +1,37 @@
+-- The characters of each sign.
+use Rattle.std.specs.Prelude.{ℕ, List, codes}
+use Rattle.ev_lex.specs.declared.token.Sign.{Sign}
+use Rattle.ev_lex.specs.declared.token.Sign.TheVariants as sign
+
+abbrev pub sign_text : Sign → List ℕ
+sign_text sign.Namespace = codes "::"
+sign_text sign.Assign = codes ":="
+sign_text sign.Arrow = codes "->"
+sign_text sign.BackLink = codes ".<"
+sign_text sign.LessOrEqual = codes "<="
+sign_text sign.GreaterOrEqual = codes ">="
+sign_text sign.NotEqual = codes "!="
+sign_text sign.OptionalEqual = codes "?="
+sign_text sign.OptionalNotEqual = codes "?!="
+sign_text sign.Coalesce = codes "??"
+sign_text sign.Concat = codes "++"
+sign_text sign.FloorDivide = codes "//"
+sign_text sign.LeftParen = codes "("
+sign_text sign.RightParen = codes ")"
+sign_text sign.LeftBrace = codes "{"
+sign_text sign.RightBrace = codes "}"
+sign_text sign.LeftBracket = codes "["
+sign_text sign.RightBracket = codes "]"
+sign_text sign.Comma = codes ","
+sign_text sign.Semicolon = codes ";"
+sign_text sign.Colon = codes ":"
+sign_text sign.Dot = codes "."
+sign_text sign.Less = codes "<"
+sign_text sign.Greater = codes ">"
+sign_text sign.Equal = codes "="
+sign_text sign.Plus = codes "+"
+sign_text sign.Minus = codes "-"
+sign_text sign.Star = codes "*"
+sign_text sign.Percent = codes "%"
+sign_text sign.At = codes "@"
+sign_text sign.Dollar = codes "$"
