@@ -1,0 +1,246 @@
+-- What single tokens stand for.
+use Rattle.std.specs.Prelude.{◌≡◌, ℕ, ◌+◌, ◌==◌, Bool, true, false, List, [], Option, Some, None, if◌then◌else◌}
+use denote.Enum.Bare.{sameb}
+use Rattle.ev_lex.specs.contracts.token.Sign.{the_type as sign_type}
+use Rattle.ev_lex.specs.contracts.keyword.Keyword.{the_type as keyword_type}
+use Rattle.ev_lex.specs.declared.token.Token.{Token}
+use Rattle.ev_lex.specs.declared.token.TokenKind.{TokenKind}
+use Rattle.ev_lex.specs.declared.token.TokenKind.TheVariants as kind
+use Rattle.ev_lex.specs.declared.token.Sign.{Sign}
+use Rattle.ev_lex.specs.declared.token.Sign.TheVariants as sign
+use Rattle.ev_lex.specs.declared.keyword.Keyword.{Keyword}
+use Rattle.ev_lex.specs.declared.keyword.Keyword.TheVariants as keyword
+use Rattle.ev_lex.specs.Keyword.{keyword_of, is_reserved}
+use Rattle.ast.specs.declared.name.Span.{Span}
+use Rattle.ast.specs.declared.name.Name.{Name}
+use Rattle.ast.specs.declared.expression.Expr.{Expr}
+use Rattle.ast.specs.declared.expression.Expr as e
+use Rattle.ast.specs.declared.operator.BinaryOperator.{BinaryOperator}
+use Rattle.ast.specs.declared.operator.BinaryOperator.TheVariants as op
+use Rattle.ast.specs.declared.operator.UnaryOperator.{UnaryOperator}
+use Rattle.ast.specs.declared.operator.UnaryOperator.TheVariants as unary
+use Rattle.ast.specs.declared.shape.Need.TheVariants as need
+use Rattle.ast.specs.declared.shape.Width.TheVariants as width
+use Rattle.ast.specs.declared.statement.EmptyPlace.TheVariants as empty
+use Rattle.eql_grammar.specs.declared.grown.Infix.{Infix}
+use Rattle.eql_grammar.specs.declared.grown.Prefix.{Prefix}
+use Rattle.eql_grammar.specs.declared.grown.Qualified.{Qualified}
+use Rattle.eql_grammar.specs.declared.grown.Direction.{Direction}
+use Rattle.eql_grammar.specs.declared.grown.Placement.{Placement}
+
+-- The class of a token: a sign, a word that is no name, a word that is one (and a keyword in its place, if it is one), a number, a literal.
+pub data Class : Type 0 where
+  ASign : Sign → Class
+  Reserved : Keyword → Class
+  Named : Option Keyword → Class
+  Number : Class
+  Literal : Class
+
+-- the class of a keyword
+abbrev pub word_class : Keyword → Class
+word_class k = if is_reserved k then Reserved k else Named (Some k)
+
+abbrev pub class_of_word : Option Keyword → Class
+class_of_word None = Named None
+class_of_word (Some k) = word_class k
+
+abbrev pub class_of_kind : TokenKind → Class
+class_of_kind (kind.Word w) = class_of_word (keyword_of w)
+class_of_kind (kind.Int digits) = Number
+class_of_kind (kind.Str text) = Literal
+class_of_kind (kind.Sign s) = ASign s
+
+unfoldable pub class_of : Token → Class
+class_of t = class_of_kind t.kind
+
+-- the bytes of a token
+abbrev pub span : Token → Span
+span t = record { start = t.start; end = t.end }
+
+-- its text: that of a word, the digits of a number, what a literal stands for
+abbrev pub text_of : TokenKind → List ℕ
+text_of (kind.Word w) = w
+text_of (kind.Int digits) = digits
+text_of (kind.Str text) = text
+text_of (kind.Sign s) = []
+
+-- ---- signs and keywords
+
+unfoldable pub same_sign : Sign → Sign → Bool
+same_sign = sameb sign_type
+
+unfoldable pub same_keyword : Keyword → Keyword → Bool
+same_keyword = sameb keyword_type
+
+abbrev pub same_class : Class → Class → Bool
+same_class (ASign a) (ASign b) = same_sign a b
+same_class (Reserved a) (Reserved b) = same_keyword a b
+same_class (Named (Some a)) (Named (Some b)) = same_keyword a b
+same_class _ _ = false
+
+-- whether the token is of the class of this sign or keyword
+abbrev pub is : Class → Token → Bool
+is c t = same_class c (class_of t)
+
+-- whether the token is this sign
+abbrev pub is_sign : Sign → Token → Bool
+is_sign s = is (ASign s)
+
+-- whether the token is this keyword, without regard to case
+abbrev pub is_word : Keyword → Token → Bool
+is_word k = is (word_class k)
+
+-- A sign or keyword stands for its place.
+abbrev pub mark_of : Class → Token → Option Span
+mark_of c t = if is c t then Some (span t) else None
+
+abbrev pub sign_of : Sign → Token → Option Span
+sign_of s = mark_of (ASign s)
+
+abbrev pub word_of : Keyword → Token → Option Span
+word_of k = mark_of (word_class k)
+
+abbrev pub comma_of : Token → Option (Unit {0})
+comma_of t = if is_sign sign.Comma t then Some tt else None
+
+-- whether the token begins a statement
+abbrev pub statement_class : Class → Bool
+statement_class (Reserved keyword.With) = true
+statement_class (Reserved keyword.For) = true
+statement_class (Reserved keyword.Select) = true
+statement_class _ = false
+
+abbrev pub is_statement : Token → Bool
+is_statement t = statement_class (class_of t)
+
+-- whether the token is `for` or `select`, which end the aliases
+abbrev pub for_or_select : Class → Bool
+for_or_select (Reserved keyword.For) = true
+for_or_select (Reserved keyword.Select) = true
+for_or_select _ = false
+
+abbrev pub ends_aliases : Token → Bool
+ends_aliases t = for_or_select (class_of t)
+
+-- ---- names and literals
+
+abbrev pub name_in : Class → TokenKind → Span → Option Name
+name_in (Named k) text s = Some (record { text = text_of text; span = s })
+name_in _ text s = None
+
+-- A name is a word that is not reserved.
+abbrev pub name_of : Token → Option Name
+name_of t = name_in (class_of t) t.kind (span t)
+
+abbrev pub parameter_in : Class → TokenKind → Span → Option Name
+parameter_in (Named k) text s = Some (record { text = text_of text; span = s })
+parameter_in Number text s = Some (record { text = text_of text; span = s })
+parameter_in _ text s = None
+
+-- The name of a parameter is a name or a number.
+abbrev pub parameter_of : Token → Option Name
+parameter_of t = parameter_in (class_of t) t.kind (span t)
+
+abbrev pub literal_in : Class → TokenKind → Span → Option Expr
+literal_in Number text s = Some (e.Int s (text_of text))
+literal_in Literal text s = Some (e.Str s (text_of text))
+literal_in (Reserved keyword.True) text s = Some (e.Bool s true)
+literal_in (Reserved keyword.False) text s = Some (e.Bool s false)
+literal_in _ text s = None
+
+-- A number, a text, `true` or `false`.
+abbrev pub literal_of : Token → Option Expr
+literal_of t = literal_in (class_of t) t.kind (span t)
+
+-- ---- operators
+
+-- An operator between two operands, and its level: the loosest is of level 1.
+pub record Leveled : Type 0 where
+  pub level : ℕ
+  pub operator : BinaryOperator
+
+abbrev pub at_level : ℕ → BinaryOperator → Option Leveled
+at_level level operator = Some (record { level = level; operator = operator })
+
+abbrev pub infix_in : Class → Option Leveled
+infix_in (Reserved keyword.Union) = at_level 1 op.Union
+infix_in (Reserved keyword.Intersect) = at_level 1 op.Intersect
+infix_in (Reserved keyword.Except) = at_level 1 op.Except
+infix_in (Reserved keyword.Or) = at_level 3 op.Or
+infix_in (Reserved keyword.And) = at_level 4 op.And
+infix_in (ASign sign.Equal) = at_level 6 op.Equal
+infix_in (ASign sign.NotEqual) = at_level 6 op.NotEqual
+infix_in (ASign sign.OptionalEqual) = at_level 6 op.OptionalEqual
+infix_in (ASign sign.OptionalNotEqual) = at_level 6 op.OptionalNotEqual
+infix_in (ASign sign.Less) = at_level 6 op.Less
+infix_in (ASign sign.LessOrEqual) = at_level 6 op.LessOrEqual
+infix_in (ASign sign.Greater) = at_level 6 op.Greater
+infix_in (ASign sign.GreaterOrEqual) = at_level 6 op.GreaterOrEqual
+infix_in (Reserved keyword.Like) = at_level 6 op.Like
+infix_in (Reserved keyword.Ilike) = at_level 6 op.Ilike
+infix_in (Reserved keyword.In) = at_level 6 op.In
+infix_in (ASign sign.Plus) = at_level 7 op.Add
+infix_in (ASign sign.Minus) = at_level 7 op.Subtract
+infix_in (ASign sign.Concat) = at_level 7 op.Concat
+infix_in (ASign sign.Star) = at_level 8 op.Multiply
+infix_in (ASign sign.FloorDivide) = at_level 8 op.FloorDivide
+infix_in (ASign sign.Percent) = at_level 8 op.Remainder
+infix_in (ASign sign.Coalesce) = at_level 9 op.Coalesce
+infix_in _ = None
+
+abbrev pub infix_if : ℕ → Option Leveled → Span → Option Infix
+infix_if level None s = None
+infix_if level (Some found) s = if found.level == level then Some (record { operator = found.operator; place = s }) else None
+
+-- An operator of the level, between two operands.
+abbrev pub infix_of : ℕ → Token → Option Infix
+infix_of level t = infix_if level (infix_in (class_of t)) (span t)
+
+abbrev pub prefix_in : Class → Span → Option Prefix
+prefix_in (ASign sign.Minus) s = Some (record { operator = unary.Negate; place = s })
+prefix_in (ASign sign.Plus) s = Some (record { operator = unary.Keep; place = s })
+prefix_in (Reserved keyword.Distinct) s = Some (record { operator = unary.Distinct; place = s })
+prefix_in (Reserved keyword.Exists) s = Some (record { operator = unary.Exists; place = s })
+prefix_in _ s = None
+
+-- `-`, `+`, `distinct` or `exists` before an operand.
+abbrev pub prefix_of : Token → Option Prefix
+prefix_of t = prefix_in (class_of t) (span t)
+
+-- ---- words of elements and keys
+
+abbrev pub need_in : Class → ℕ → Option Qualified
+need_in (Reserved keyword.Required) start = Some (record { start = start; qualifiers = record { need = Some need.Required; width = None } })
+need_in (Reserved keyword.Optional) start = Some (record { start = start; qualifiers = record { need = Some need.Optional; width = None } })
+need_in _ start = None
+
+-- `required` or `optional`.
+abbrev pub need_of : Token → Option Qualified
+need_of t = need_in (class_of t) t.start
+
+abbrev pub width_in : Class → ℕ → Option Qualified
+width_in (Reserved keyword.Single) start = Some (record { start = start; qualifiers = record { need = None; width = Some width.Single } })
+width_in (Reserved keyword.Multi) start = Some (record { start = start; qualifiers = record { need = None; width = Some width.Multi } })
+width_in _ start = None
+
+-- `single` or `multi`.
+abbrev pub width_of : Token → Option Qualified
+width_of t = width_in (class_of t) t.start
+
+abbrev pub direction_in : Class → ℕ → Option Direction
+direction_in (Named (Some keyword.Asc)) end = Some (record { descending = false; end = end })
+direction_in (Named (Some keyword.Desc)) end = Some (record { descending = true; end = end })
+direction_in _ end = None
+
+-- `asc` or `desc`.
+abbrev pub direction_of : Token → Option Direction
+direction_of t = direction_in (class_of t) t.end
+
+abbrev pub place_in : Class → ℕ → Option Placement
+place_in (Named (Some keyword.First)) end = Some (record { place = empty.First; end = end })
+place_in (Named (Some keyword.Last)) end = Some (record { place = empty.Last; end = end })
+place_in _ end = None
+
+-- `first` or `last`.
+abbrev pub place_of : Token → Option Placement
+place_of t = place_in (class_of t) t.end
