@@ -1,5 +1,5 @@
 -- What single tokens stand for.
-use Rattle.std.specs.Prelude.{◌≡◌, ℕ, ◌+◌, ◌==◌, Bool, true, false, List, [], Option, Some, None, if◌then◌else◌}
+use Rattle.std.specs.Prelude.{◌≡◌, ℕ, ◌==◌, ◌||◌, Bool, true, false, List, [], Option, Some, None, if◌then◌else◌}
 use denote.Enum.Bare.{sameb}
 use Rattle.ev_lex.specs.contracts.token.Sign.{the_type as sign_type}
 use Rattle.ev_lex.specs.contracts.keyword.Keyword.{the_type as keyword_type}
@@ -19,8 +19,11 @@ use Rattle.ast.specs.declared.operator.BinaryOperator.{BinaryOperator}
 use Rattle.ast.specs.declared.operator.BinaryOperator.TheVariants as op
 use Rattle.ast.specs.declared.operator.UnaryOperator.{UnaryOperator}
 use Rattle.ast.specs.declared.operator.UnaryOperator.TheVariants as unary
+use Rattle.ast.specs.declared.shape.Need.{Need}
 use Rattle.ast.specs.declared.shape.Need.TheVariants as need
+use Rattle.ast.specs.declared.shape.Width.{Width}
 use Rattle.ast.specs.declared.shape.Width.TheVariants as width
+use Rattle.ast.specs.declared.statement.EmptyPlace.{EmptyPlace}
 use Rattle.ast.specs.declared.statement.EmptyPlace.TheVariants as empty
 use Rattle.eql_grammar.specs.declared.grown.Infix.{Infix}
 use Rattle.eql_grammar.specs.declared.grown.Prefix.{Prefix}
@@ -104,23 +107,16 @@ abbrev pub comma_of : Token → Option (Unit {0})
 comma_of t = if is_sign sign.Comma t then Some tt else None
 
 -- whether the token begins a statement
-abbrev pub statement_class : Class → Bool
-statement_class (Reserved keyword.With) = true
-statement_class (Reserved keyword.For) = true
-statement_class (Reserved keyword.Select) = true
-statement_class _ = false
-
 abbrev pub is_statement : Token → Bool
-is_statement t = statement_class (class_of t)
+is_statement t = is_word keyword.With t || (is_word keyword.For t || is_word keyword.Select t)
 
 -- whether the token is `for` or `select`, which end the aliases
-abbrev pub for_or_select : Class → Bool
-for_or_select (Reserved keyword.For) = true
-for_or_select (Reserved keyword.Select) = true
-for_or_select _ = false
-
 abbrev pub ends_aliases : Token → Bool
-ends_aliases t = for_or_select (class_of t)
+ends_aliases t = is_word keyword.For t || is_word keyword.Select t
+
+-- what the one or the other of two keywords stands for
+abbrev pub either_word : {A : Type 0} → Keyword → A → Keyword → A → Token → Option A
+either_word k a l b t = if is_word k t then Some a else (if is_word l t then Some b else None)
 
 -- ---- names and literals
 
@@ -141,16 +137,14 @@ parameter_in _ text s = None
 abbrev pub parameter_of : Token → Option Name
 parameter_of t = parameter_in (class_of t) t.kind (span t)
 
-abbrev pub literal_in : Class → TokenKind → Span → Option Expr
-literal_in Number text s = Some (e.Int s (text_of text))
-literal_in Literal text s = Some (e.Str s (text_of text))
-literal_in (Reserved keyword.True) text s = Some (e.Bool s true)
-literal_in (Reserved keyword.False) text s = Some (e.Bool s false)
-literal_in _ text s = None
+abbrev pub number_or_text : Class → TokenKind → Span → Option Expr → Option Expr
+number_or_text Number text s else_ = Some (e.Int s (text_of text))
+number_or_text Literal text s else_ = Some (e.Str s (text_of text))
+number_or_text _ text s else_ = else_
 
 -- A number, a text, `true` or `false`.
 abbrev pub literal_of : Token → Option Expr
-literal_of t = literal_in (class_of t) t.kind (span t)
+literal_of t = number_or_text (class_of t) t.kind (span t) (either_word keyword.True (e.Bool (span t) true) keyword.False (e.Bool (span t) false) t)
 
 -- ---- operators
 
@@ -209,38 +203,30 @@ prefix_of t = prefix_in (class_of t) (span t)
 
 -- ---- words of elements and keys
 
-abbrev pub need_in : Class → ℕ → Option Qualified
-need_in (Reserved keyword.Required) start = Some (record { start = start; qualifiers = record { need = Some need.Required; width = None } })
-need_in (Reserved keyword.Optional) start = Some (record { start = start; qualifiers = record { need = Some need.Optional; width = None } })
-need_in _ start = None
+abbrev pub needed : Need → Token → Qualified
+needed n t = record { start = t.start; qualifiers = record { need = Some n; width = None } }
 
 -- `required` or `optional`.
 abbrev pub need_of : Token → Option Qualified
-need_of t = need_in (class_of t) t.start
+need_of t = either_word keyword.Required (needed need.Required t) keyword.Optional (needed need.Optional t) t
 
-abbrev pub width_in : Class → ℕ → Option Qualified
-width_in (Reserved keyword.Single) start = Some (record { start = start; qualifiers = record { need = None; width = Some width.Single } })
-width_in (Reserved keyword.Multi) start = Some (record { start = start; qualifiers = record { need = None; width = Some width.Multi } })
-width_in _ start = None
+abbrev pub wide : Width → Token → Qualified
+wide w t = record { start = t.start; qualifiers = record { need = None; width = Some w } }
 
 -- `single` or `multi`.
 abbrev pub width_of : Token → Option Qualified
-width_of t = width_in (class_of t) t.start
+width_of t = either_word keyword.Single (wide width.Single t) keyword.Multi (wide width.Multi t) t
 
-abbrev pub direction_in : Class → ℕ → Option Direction
-direction_in (Named (Some keyword.Asc)) end = Some (record { descending = false; end = end })
-direction_in (Named (Some keyword.Desc)) end = Some (record { descending = true; end = end })
-direction_in _ end = None
+abbrev pub directed : Bool → Token → Direction
+directed descending t = record { descending = descending; end = t.end }
 
 -- `asc` or `desc`.
 abbrev pub direction_of : Token → Option Direction
-direction_of t = direction_in (class_of t) t.end
+direction_of t = either_word keyword.Asc (directed false t) keyword.Desc (directed true t) t
 
-abbrev pub place_in : Class → ℕ → Option Placement
-place_in (Named (Some keyword.First)) end = Some (record { place = empty.First; end = end })
-place_in (Named (Some keyword.Last)) end = Some (record { place = empty.Last; end = end })
-place_in _ end = None
+abbrev pub put : EmptyPlace → Token → Placement
+put place t = record { place = place; end = t.end }
 
 -- `first` or `last`.
 abbrev pub place_of : Token → Option Placement
-place_of t = place_in (class_of t) t.end
+place_of t = either_word keyword.First (put empty.First t) keyword.Last (put empty.Last t) t
