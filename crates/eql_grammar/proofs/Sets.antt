@@ -396,11 +396,11 @@ negation_starts t = negation_at (class_of t) t
 abbrev pub starts : Token → Bool
 starts t = start_at (class_of t) t
 
-or_one : (a b : Bool) → a ≡ true → (a || b) ≡ true
+pub or_one : (a b : Bool) → a ≡ true → (a || b) ≡ true
 or_one true b h = refl
 or_one false b h = absurd cc
 
-or_other : (a b : Bool) → b ≡ true → (a || b) ≡ true
+pub or_other : (a b : Bool) → b ≡ true → (a || b) ≡ true
 or_other true b h = refl
 or_other false b h = h
 
