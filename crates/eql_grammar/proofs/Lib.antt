@@ -1,2 +1,4 @@
 pub mod Sets
 pub mod Exprs
+pub mod Turning
+pub mod Ifs
