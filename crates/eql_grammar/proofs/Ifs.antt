@@ -1,5 +1,5 @@
 -- Nested `if`s: read with a stack, they are what the grammar says.
-use Rattle.std.proofs.Common.{◌≡◌, ℕ, zero, suc, ◌+◌, ◌-◌, ◌≤◌, ◌<◌, Bool, true, false, not, ◌||◌, ◌==◌, List, [], ◌∷◌, ◌++◌, length, Option, Some, None, refl, sym, ap, subst, arith, inl, inr, ◌⊎◌}
+use Rattle.std.proofs.Common.{◌≡◌, ℕ, zero, suc, ◌+◌, ◌-◌, ◌≤◌, ◌<◌, Bool, true, false, not, ◌||◌, ◌==◌, List, [], ◌∷◌, ◌++◌, length, Option, Some, None, append-nil, refl, sym, ap, subst, ◌∙◌, arith, inl, inr, ◌⊎◌}
 use Rattle.std.proofs.Math.Dec.{eqb-suc-zero}
 use Rattle.ev_lex.specs.declared.token.Token.{Token}
 use Rattle.ev_lex.specs.declared.keyword.Keyword.TheVariants as keyword
@@ -19,9 +19,9 @@ use Rattle.exact.specs.Reading.{Reader, Outcome, Stop, and_then, onward, refuse}
 use Rattle.exact.proofs.Heads.{Begins, Avoids, Covers, BeginsIn, never, begins_long, begins_then, begins_either, begins_in, avoids_begins, avoids_none}
 use Rattle.exact.proofs.Exact.{Inhabited}
 use Rattle.exact.proofs.Laws.{Mode, lowered, lowered_text, IsExactAt, exact_pure, exact_then, exact_map, exact_choose, exact_weaken, exact_loop_with, exact_alike}
-use Rattle.eql_grammar.proofs.Sets.{at_mark, begins_mark, begins_one_mark, behind, go, lacks_mark, lead, negation_at, negation_in, negation_starts, opening_behind, or_right, start_at, starts, word_Else, word_If, word_Then}
+use Rattle.eql_grammar.proofs.Sets.{at_mark, begins_mark, begins_one_mark, behind, go, lacks_mark, lead, negation_at, negation_in, negation_starts, opening_behind, or_right, some_set, start_at, starts, word_Else, word_If, word_Then}
 use Rattle.eql_grammar.proofs.Turning.{Within, then_within, first_within, regroup_right, regroup_left, empty_before, empty_gone, loop_fold, loop_begins, some_turn, mapped, led}
-use Rattle.eql_grammar.proofs.Exprs.{Known, exact_conditional, conditional_begins}
+use Rattle.eql_grammar.proofs.Exprs.{Known, exact_conditional, conditional_begins, exact_operators}
 
 -- ---- the stack as a language
 
@@ -174,17 +174,144 @@ module _ (depth : ℕ) (high : ℕ → Bool) (L : g.Inner) where
   spread C K n x v l =
       then_within (λ at n x v l. then_within (λ c n x v l. then_within (λ _ n x v l. then_within (λ y n x v l. then_within (λ _ n x v l. then_within (λ other. empty_gone (t.chosen_then at.start c y other) K) n x v (regroup_right _ _ K n x v l)) n x v (regroup_right _ _ K n x v l)) n x v (regroup_right _ _ K n x v l)) n x v (regroup_right _ _ K n x v l)) n x v (regroup_right _ _ K n x v l)) n x v (regroup_right _ _ K n x v l)
 
-  pub to_stack : (k : ℕ) (frames : List Frame) → Within (Then (g.Choices depth high L k) (After frames)) (Stack (Want frames))
-  to_stack zero frames = plain_to frames
-  to_stack (suc k) frames n x v l = by l.front l.back l.value l.parts l.first l.second
-    where
-      inside : Within (Around (g.Choices depth high L k) (After frames)) (Stack (Want frames))
-      inside n x v l =
-          if_to frames n x v
-          (then_within (λ at n x v l. to_stack k (frame.Condition at.start ∷ frames) n x v
-          (then_within (λ c n x v l. then_to at.start c frames n x v
-          (then_within (λ _ n x v l. to_stack k (frame.Value at.start c ∷ frames) n x v (then_within (λ y. else_to at.start c y frames) n x v l)) n x v l)) n x v l)) n x v l)
+  around_to : (k : ℕ) → ((frames : List Frame) → Within (Then (g.Choices depth high L k) (After frames)) (Stack (Want frames))) → (frames : List Frame) → Within (Around (g.Choices depth high L k) (After frames)) (Stack (Want frames))
+  around_to k ih frames n x v l =
+      if_to frames n x v
+      (then_within (λ at n x v l. ih (frame.Condition at.start ∷ frames) n x v
+      (then_within (λ c n x v l. then_to at.start c frames n x v
+      (then_within (λ _ n x v l. ih (frame.Value at.start c ∷ frames) n x v (then_within (λ y. else_to at.start c y frames) n x v l)) n x v l)) n x v l)) n x v l)
 
-      by : (front back : List Token) (y : GrownExpr) → x ≡ front ++ back → g.Choices depth high L (suc k) n front y → After frames y (n - length front) back v → Stack (Want frames) n x v
-      by front back y parts (inl f) s = inside n x v (spread (g.Choices depth high L k) (After frames) n x v (record { front = front; back = back; value = y; parts = parts; first = f; second = s }))
-      by front back y parts (inr f) s = plain_to frames n x v (record { front = front; back = back; value = y; parts = parts; first = f; second = s })
+  either_to : (k : ℕ) → ((frames : List Frame) → Within (Then (g.Choices depth high L k) (After frames)) (Stack (Want frames))) → (frames : List Frame) (n : ℕ) (x front back : List Token) (y v : GrownExpr)
+      → x ≡ front ++ back → g.Choices depth high L (suc k) n front y → After frames y (n - length front) back v → Stack (Want frames) n x v
+  either_to k ih frames n x front back y v parts (inl f) s = around_to k ih frames n x v (spread (g.Choices depth high L k) (After frames) n x v (record { front = front; back = back; value = y; parts = parts; first = f; second = s }))
+  either_to k ih frames n x front back y v parts (inr f) s = plain_to frames n x v (record { front = front; back = back; value = y; parts = parts; first = f; second = s })
+
+  to_stack : (k : ℕ) (frames : List Frame) → Within (Then (g.Choices depth high L k) (After frames)) (Stack (Want frames))
+  to_stack zero frames = plain_to frames
+  to_stack (suc k) frames = λ n x v l. either_to k (to_stack k) frames n x l.front l.back l.value v l.parts l.first l.second
+
+  alone_before : (k : ℕ) → Within (g.Choices depth high L k) (Then (g.Choices depth high L k) (λ y. Empty y))
+  alone_before k n x v c = record { front = x; back = []; value = v; parts = sym (append-nil x); first = c; second = (refl, refl) }
+
+  pub choice_stack : Within (g.Choice depth high L) (Stack (Want []))
+  choice_stack n x v c = to_stack c.0 [] n x v (alone_before c.0 n x v c.1)
+
+  -- ---- and back
+
+  -- a loop of fewer turns
+  abbrev Fewer : ℕ → Step Waiting GrownExpr → Lang Token GrownExpr
+  Fewer j (More a) n x v = (i : ℕ) × (i < j) × Turns (Turn depth high L) i a n x v
+  Fewer j (Done d) n x v = Empty d n x v
+
+  fewer : (i j : ℕ) → i < j → (w : Step Waiting GrownExpr) → Within (Onward (Turns (Turn depth high L) i) w) (Fewer j w)
+  fewer i j lt (More a) n x v l = (i, lt, l)
+  fewer i j lt (Done d) n x v l = l
+
+  less_still : (i j : ℕ) → i ≤ j → (w : Step Waiting GrownExpr) → Within (Fewer i w) (Fewer j w)
+  less_still i j le (More a) n x v l = (l.0, (let lt = l.1 in omega arith), l.2)
+  less_still i j le (Done d) n x v l = l
+
+  -- What is to be shown of so many turns.
+  abbrev Parts : ℕ → Type 0
+  Parts j = (frames : List Frame) (n : ℕ) (x : List Token) (v : GrownExpr) → Turns (Turn depth high L) j (Want frames) n x v → (k : ℕ) × Then (g.Choices depth high L k) (λ y. Fewer j (settled frames y)) n x v
+
+  raise : (k : ℕ) → Within (g.Choices depth high L k) (g.Choices depth high L (suc k))
+  raise zero n x v c = inr c
+  raise (suc k) n x v (inl c) = inl (then_within (λ at n x v l. first_within (raise k) n x v (then_within (λ c n x v l. then_within (λ _. first_within (raise k)) n x v l) n x v l)) n x v c)
+  raise (suc k) n x v (inr c) = inr c
+
+  recount : (a b : ℕ) → a ≡ b → Within (g.Choices depth high L a) (g.Choices depth high L b)
+  recount a b same n x v c = subst (λ (m : ℕ). g.Choices depth high L m n x v) same c
+
+  lift_other : (d k : ℕ) → Within (g.Choices depth high L k) (g.Choices depth high L (k + d))
+  lift_other zero k n x v c = recount k (k + 0) (omega arith) n x v c
+  lift_other (suc d) k n x v c = recount (suc (k + d)) (k + suc d) (omega arith) n x v (raise (k + d) n x v (lift_other d k n x v c))
+
+  lift : (d k : ℕ) → Within (g.Choices depth high L k) (g.Choices depth high L (d + k))
+  lift d k n x v c = recount (k + d) (d + k) (omega arith) n x v (lift_other d k n x v c)
+
+  abbrev ElsePart : ℕ → ℕ → GrownExpr → List Frame → GrownExpr → Lang Token GrownExpr
+  ElsePart j start c frames y = Then (OneWithin (high y.height || (depth == 0)) (word_of keyword.Else)) (λ _. Then L.choice (λ other. Fewer j (settled frames (t.chosen_then start c y other))))
+
+  else_from : (i j : ℕ) → i < j → (start : ℕ) (c : GrownExpr) (frames : List Frame) (y : GrownExpr) → Within (Turns (Turn depth high L) i (Have (frame.Value start c) frames y)) (ElsePart j start c frames y)
+  else_from zero j lt start c frames y n x v l = absurd l
+  else_from (suc i) j lt start c frames y n x v l =
+      then_within (λ _ n x v l. then_within (λ other n x v l. fewer i j (omega arith) (settled frames (t.chosen_then start c y other)) n x v (empty_gone (settled frames (t.chosen_then start c y other)) (Onward (Turns (Turn depth high L) i)) n x v l)) n x v
+      (regroup_right L.choice (λ other. Empty (settled frames (t.chosen_then start c y other))) (Onward (Turns (Turn depth high L) i)) n x v l)) n x v
+      (regroup_right (OneWithin (high y.height || (depth == 0)) (word_of keyword.Else)) (λ _. Then L.choice (λ other. Empty (settled frames (t.chosen_then start c y other)))) (Onward (Turns (Turn depth high L) i)) n x v l)
+
+  -- what stands behind a condition
+  abbrev ThenPart : ℕ → ℕ → ℕ → List Frame → GrownExpr → Lang Token GrownExpr
+  ThenPart k j start frames c = Then (OneWithin (high c.height) (word_of keyword.Then)) (λ _. Then (g.Choices depth high L k) (ElsePart j start c frames))
+
+  then_from : (j : ℕ) → ((i : ℕ) → i < j → Parts i) → (i : ℕ) → i < j → (start : ℕ) (frames : List Frame) (c : GrownExpr) (n : ℕ) (x : List Token) (v : GrownExpr) → Turns (Turn depth high L) i (Have (frame.Condition start) frames c) n x v → (k : ℕ) × ThenPart k j start frames c n x v
+  then_from j ih zero lt start frames c n x v t = absurd t
+  then_from j ih (suc i) lt start frames c n x v t =
+      let q = then_within (λ _. empty_gone (More (Want (frame.Value start c ∷ frames))) (Onward (Turns (Turn depth high L) i))) n x v (regroup_right (OneWithin (high c.height) (word_of keyword.Then)) (λ _. Empty (More (Want (frame.Value start c ∷ frames)))) (Onward (Turns (Turn depth high L) i)) n x v t) in
+      let m = ih i (omega arith) (frame.Value start c ∷ frames) (n - length q.front) q.back v q.second in
+      (m.0, record { front = q.front; back = q.back; value = q.value; parts = q.parts; first = q.first; second = then_within (λ y n x v l. else_from l.0 j (let less = l.1 in omega arith) start c frames y n x v l.2) (n - length q.front) q.back v m.1 })
+
+  condition_from : (j : ℕ) → ((i : ℕ) → i < j → Parts i) → (i : ℕ) → i < j → (start : ℕ) (frames : List Frame) (n : ℕ) (x : List Token) (v : GrownExpr) → Turns (Turn depth high L) i (Want (frame.Condition start ∷ frames)) n x v
+      → (k : ℕ) × Then (g.Choices depth high L k) (ThenPart k j start frames) n x v
+  condition_from j ih i lt start frames n x v t =
+      let q = ih i lt (frame.Condition start ∷ frames) n x v t in
+      let m = then_from j ih q.1.second.0 (let less = q.1.second.1 in omega arith) start frames q.1.value (n - length q.1.front) q.1.back v q.1.second.2 in
+      (m.0 + q.0, record {
+        front = q.1.front;
+        back = q.1.back;
+        value = q.1.value;
+        parts = q.1.parts;
+        first = lift m.0 q.0 n q.1.front q.1.value q.1.first;
+        second = then_within (λ _. first_within (lift_other q.0 m.0)) (n - length q.1.front) q.1.back v m.1;
+      })
+
+  gather : (C : Lang Token GrownExpr) (K : GrownExpr → Lang Token GrownExpr) → Within (Around C K) (Then (IfThen C) K)
+  gather C K n x v l =
+      regroup_left _ _ K n x v (then_within (λ at n x v l. regroup_left _ _ K n x v (then_within (λ c n x v l. regroup_left _ _ K n x v (then_within (λ _ n x v l. regroup_left _ _ K n x v (then_within (λ y n x v l. regroup_left _ _ K n x v (then_within (λ _ n x v l. regroup_left _ _ K n x v (then_within (λ other. empty_before (t.chosen_then at.start c y other) K) n x v l)) n x v l)) n x v l)) n x v l)) n x v l)) n x v l)
+
+  step_from : (i : ℕ) → ((j : ℕ) → j < suc i → Parts j) → (frames : List Frame) (n : ℕ) (x front back : List Token) (w : Step Waiting GrownExpr) (v : GrownExpr) → x ≡ front ++ back → Turn depth high L (Want frames) n front w
+      → Onward (Turns (Turn depth high L) i) w (n - length front) back v → (k : ℕ) × Then (g.Choices depth high L k) (λ y. Fewer (suc i) (settled frames y)) n x v
+  step_from i ih frames n x front back w v parts (inl f) s =
+      let q = then_within (λ at. empty_gone (More (Want (frame.Condition at.start ∷ frames))) (Onward (Turns (Turn depth high L) i))) n x v (regroup_right (One (word_of keyword.If)) (λ at. Empty (More (Want (frame.Condition at.start ∷ frames)))) (Onward (Turns (Turn depth high L) i)) n x v (record { front = front; back = back; value = w; parts = parts; first = f; second = s })) in
+      let m = condition_from (suc i) ih i (omega arith) q.value.start frames (n - length q.front) q.back v q.second in
+      (suc m.0, first_within (λ n x v l. inl l) n x v (gather (g.Choices depth high L m.0) (λ y. Fewer (suc i) (settled frames y)) n x v (record { front = q.front; back = q.back; value = q.value; parts = q.parts; first = q.first; second = m.1 })))
+  step_from i ih frames n x front back w v parts (inr f) s =
+      (zero, then_within (λ y n x v l. fewer i (suc i) (omega arith) (settled frames y) n x v (empty_gone (settled frames y) (Onward (Turns (Turn depth high L) i)) n x v l)) n x v
+      (regroup_right (g.Conditional depth high L) (λ y. Empty (settled frames y)) (Onward (Turns (Turn depth high L) i)) n x v (record { front = front; back = back; value = w; parts = parts; first = f; second = s })))
+
+  turns_from : (j : ℕ) → ((i : ℕ) → i < j → Parts i) → Parts j
+  turns_from zero ih frames n x v t = absurd t
+  turns_from (suc i) ih frames n x v t = step_from i ih frames n x t.front t.back t.value v t.parts t.first t.second
+
+  all_from : (bound j : ℕ) → j < bound → Parts j
+  all_from zero j lt = absurd (omega arith)
+  all_from (suc bound) j lt = turns_from j (λ i less. all_from bound i (omega arith))
+
+  alone_gone : (j k : ℕ) → Within (Then (g.Choices depth high L k) (λ y. Fewer j (settled [] y))) (g.Choices depth high L k)
+  alone_gone j k n x v t = subst (λ (z : List Token). g.Choices depth high L k n z v) (sym (t.parts ∙ ap (λ (z : List Token). t.front ++ z) t.second.0 ∙ append-nil t.front)) (subst (λ (y : GrownExpr). g.Choices depth high L k n t.front y) (sym t.second.1) t.first)
+
+  pub stack_choice : Within (Stack (Want [])) (g.Choice depth high L)
+  stack_choice n x v l = let m = all_from (suc l.0) l.0 (omega arith) [] n x v l.1 in (m.0, alone_gone l.0 m.0 n x v m.1)
+
+-- ---- the level
+
+module _ (mode : Mode) (depth deep : ℕ) (high : ℕ → Bool) (L U : g.Inner) (P : r.Inner) (h : Known (lowered (depth == 0) mode) L U P) where
+  pub exact_choice : IsExactAt mode (g.Choice depth high L) (g.Choice (suc deep) unlimited U) (r.choice depth high P) (λ _. go 12)
+  exact_choice =
+      exact_alike {L = Stack depth high L (Want [])} {U = Stack (suc deep) unlimited U (Want [])} {M = g.Choice depth high L} {V = g.Choice (suc deep) unlimited U}
+      (stack_choice depth high L) (choice_stack depth high L) (stack_choice (suc deep) unlimited U) (exact_stack mode depth deep high L U P h)
+
+  choices_begin : (k : ℕ) → Begins starts (g.Choices depth high L k)
+  unfolding same_sign same_keyword
+  choices_begin zero = begins_in negation_in (conditional_begins mode depth deep high L U P h)
+  choices_begin (suc k) = begins_either (begins_then (begins_one_mark (Reserved keyword.If) (λ t e. ap (λ d. start_at d t) e))) (begins_in negation_in (conditional_begins mode depth deep high L U P h))
+
+  choice_begins : Begins starts (g.Choice depth high L)
+  choice_begins = record { at = λ n x a c. (choices_begin c.0).at n x a c.1 }
+
+  pub exact_expr : IsExactAt mode (g.Expr depth high L) (g.Expr (suc deep) unlimited U) (r.expr depth high P) (λ _. go 11)
+  unfolding r.expr
+  exact_expr = exact_operators mode depth deep high L U P h 1 11 12 refl (omega arith) some_set exact_choice
+
+  pub expr_begins : Begins starts (g.Expr depth high L)
+  expr_begins = begins_then choice_begins
