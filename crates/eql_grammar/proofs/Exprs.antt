@@ -56,7 +56,7 @@ exact_qname =
 pub qname_begins : Begins (has name_of) g.QName
 qname_begins = begins_then names_begin
 
-starts_no_statement : (t : Token) → starts t ≡ true → is_statement t ≡ false
+pub starts_no_statement : (t : Token) → starts t ≡ true → is_statement t ≡ false
 unfolding same_sign same_keyword
 starts_no_statement t h = or_false ((lacks_mark (Reserved keyword.With) {set = starts} (λ t e. ap (λ d. start_at d t) e)) t h) (or_false ((lacks_mark (Reserved keyword.For) {set = starts} (λ t e. ap (λ d. start_at d t) e)) t h) ((lacks_mark (Reserved keyword.Select) {set = starts} (λ t e. ap (λ d. start_at d t) e)) t h))
 

@@ -2,3 +2,4 @@ pub mod Sets
 pub mod Exprs
 pub mod Turning
 pub mod Ifs
+pub mod Statements

@@ -18,8 +18,14 @@ use Rattle.ast.specs.declared.name.Name.{Name}
 use Rattle.ast.specs.declared.expression.Expr.{Expr}
 use Rattle.eql_grammar.specs.declared.grown.Infix.{Infix}
 use Rattle.eql_grammar.specs.declared.grown.Prefix.{Prefix}
-use Rattle.eql_grammar.specs.Words.{Class, ASign, Reserved, Named, Number, Literal, word_class, class_of_word, class_of, span, same_sign, same_keyword, same_class, is, is_sign, is_word, mark_of, sign_of, word_of, comma_of, is_statement, ends_aliases, either_word, name_in, name_of, parameter_of, number_or_text, literal_of, Leveled, infix_in, infix_if, infix_of, prefix_in, prefix_of}
+use Rattle.eql_grammar.specs.Words.{Class, ASign, Reserved, Named, Number, Literal, word_class, class_of_word, class_of, span, same_sign, same_keyword, same_class, is, is_sign, is_word, mark_of, sign_of, word_of, comma_of, is_statement, ends_aliases, either_word, name_in, name_of, parameter_of, number_or_text, literal_of, Leveled, infix_in, infix_if, infix_of, prefix_in, prefix_of, needed, need_of, wide, width_of, directed, direction_of, put, place_of}
 use Rattle.ast.specs.declared.operator.UnaryOperator.TheVariants as unary
+use Rattle.ast.specs.declared.shape.Need.TheVariants as need
+use Rattle.ast.specs.declared.shape.Width.TheVariants as width
+use Rattle.ast.specs.declared.statement.EmptyPlace.TheVariants as empty
+use Rattle.eql_grammar.specs.declared.grown.Qualified.{Qualified}
+use Rattle.eql_grammar.specs.declared.grown.Direction.{Direction}
+use Rattle.eql_grammar.specs.declared.grown.Placement.{Placement}
 use Rattle.exact.specs.Language.{Lang, One, OneWithin, Then, Either}
 use Rattle.exact.specs.Reading.{Reader, has, inside, one, one_within, ◌>>=◌}
 use Rattle.exact.proofs.Heads.{Begins, Avoids, never, begins_one, begins_one_within, begins_then, avoids_begins, avoids_begun}
@@ -552,3 +558,56 @@ pub record SomePrefix : Type 0 where
 pub some_prefix : SomePrefix
 unfolding class_of
 some_prefix = record { token = a_sign sign.Minus; found = record { operator = unary.Negate; place = span (a_sign sign.Minus) }; known = refl }
+
+-- ---- one of two keywords, beside sets
+
+abbrev pub either_at : {A : Type 0} → Keyword → A → Keyword → A → Class → Option A
+either_at k a l b c = cond (same_class (word_class k) c) (Some a) (cond (same_class (word_class l) c) (Some b) None)
+
+pub either_has : {A : Type 0} {set : Token → Bool} {v : Bool} (k l : Keyword) (a b : Token → A) → At (word_class k) set v → At (word_class l) set v → (t : Token) → got (either_word k (a t) l (b t) t) ≡ true → set t ≡ v
+either_has {A} {set} {v} k l a b one_is other_is t h =
+    flip (is_word k t) (λ so. at_mark (word_class k) one_is t so)
+    (λ none. flip (is_word l t) (λ so. at_mark (word_class l) other_is t so)
+    (λ neither. clash (got (either_word k (a t) l (b t) t)) h (ap (λ (c : Bool). got (cond c (Some (a t)) (cond (is_word l t) (Some (b t)) None))) none ∙ ap (λ (c : Bool). got (cond c (Some (b t)) None)) neither)))
+
+pub either_covers : {A : Type 0} {set : Token → Bool} (k l : Keyword) (a b : Token → A) → At (word_class k) set true → At (word_class l) set true → (t : Token) → set t ≡ false → got (either_word k (a t) l (b t) t) ≡ false
+either_covers {A} {set} k l a b one_is other_is t h = flip (got (either_word k (a t) l (b t) t)) (λ so. clash (set t) (either_has k l a b one_is other_is t so) h) (λ none. none)
+
+pub begins_either_word : {A : Type 0} {first : Token → Bool} (f : Token → Option A) → ((t : Token) → has f t ≡ true → first t ≡ true) → Begins first (One f)
+begins_either_word f sub = begins_one f (λ t x e. sub t (has_some f t x e))
+
+-- some token of such a pair
+pub record SomeWord (A : Type 0) (f : Token → Option A) : Type 0 where
+  pub token : Token
+  pub found : A
+  pub known : f token ≡ Some found
+
+pub some_need : SomeWord Qualified need_of
+unfolding class_of same_keyword keyword_of
+some_need = record { token = a_word keyword.Required; found = needed need.Required (a_word keyword.Required); known = refl }
+
+pub some_width : SomeWord Qualified width_of
+unfolding class_of same_keyword keyword_of
+some_width = record { token = a_word keyword.Single; found = wide width.Single (a_word keyword.Single); known = refl }
+
+pub some_direction : SomeWord Direction direction_of
+unfolding class_of same_keyword keyword_of
+some_direction = record { token = a_word keyword.Asc; found = directed false (a_word keyword.Asc); known = refl }
+
+pub some_place : SomeWord Placement place_of
+unfolding class_of same_keyword keyword_of
+some_place = record { token = a_word keyword.First; found = put empty.First (a_word keyword.First); known = refl }
+
+not_true : (b : Bool) → not b ≡ false → b ≡ true
+not_true true h = refl
+not_true false h = absurd cc
+
+-- what a set says of the tokens behind an element, and of those that end aliases
+pub element_covers : (set : Token → Bool) → At (ASign sign.Comma) set false → At (ASign sign.RightBrace) set false → (t : Token) → element_go t ≡ false → set t ≡ false
+element_covers set comma brace t h =
+    or_cases (is_sign sign.Comma t) (is_sign sign.RightBrace t) (not_true (is_sign sign.Comma t || is_sign sign.RightBrace t) h) (at_mark (ASign sign.Comma) comma t) (at_mark (ASign sign.RightBrace) brace t)
+
+pub aliases_cover : (set : Token → Bool) → At (Reserved keyword.For) set false → At (Reserved keyword.Select) set false → (t : Token) → inside ends_aliases t ≡ false → set t ≡ false
+aliases_cover set for_out select_out t h =
+    or_cases (is_word keyword.For t) (is_word keyword.Select t) (not_true (ends_aliases t) h) (at_mark (Reserved keyword.For) for_out t) (at_mark (Reserved keyword.Select) select_out t)
+
