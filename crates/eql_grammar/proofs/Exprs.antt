@@ -283,7 +283,7 @@ module _ (mode : Mode) (depth deep : ℕ) (high : ℕ → Bool) (L U : g.Inner) 
   unfolding same_sign same_keyword
   operand_no_prefix = operand_out (has prefix_of) (λ t e. ap (λ d. got (prefix_in d (span t))) e) (λ t e. ap (λ d. got (prefix_in d (span t))) e) (λ t e. ap (λ d. got (prefix_in d (span t))) e) (record { number = (λ t e. ap (λ d. not (got (prefix_in d (span t)))) e); text = (λ t e. ap (λ d. not (got (prefix_in d (span t)))) e); is_true = (λ t e. ap (λ d. not (got (prefix_in d (span t)))) e); is_false = (λ t e. ap (λ d. not (got (prefix_in d (span t)))) e) }) (λ t e. ap (λ d. got (prefix_in d (span t))) e) (λ t e. ap (λ d. got (prefix_in d (span t))) e) (λ t e. ap (λ d. got (prefix_in d (span t))) e) (λ t e. ap (λ d. got (prefix_in d (span t))) e) (λ o. (λ t e. ap (λ d. got (prefix_in d (span t))) e))
 
-  exact_unary : IsExactAt mode (g.Unary depth high L) (g.Unary (suc deep) unlimited U) (r.unary depth high P) (λ _. go 21)
+  pub exact_unary : IsExactAt mode (g.Unary depth high L) (g.Unary (suc deep) unlimited U) (r.unary depth high P) (λ _. go 21)
   unfolding r.unary same_sign same_keyword
   exact_unary =
       exact_choose (exact_open prefix_of some_prefix.token some_prefix.found some_prefix.known free (λ found. exact_map (t.prefixed found) h.unary))

@@ -3,3 +3,4 @@ pub mod Exprs
 pub mod Turning
 pub mod Ifs
 pub mod Statements
+pub mod Levels

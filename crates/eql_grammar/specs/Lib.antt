@@ -2,3 +2,4 @@ pub mod Words
 pub mod Trees
 pub mod Grammar
 pub mod Readers
+pub mod Promise
