@@ -4,3 +4,4 @@ pub mod Turning
 pub mod Ifs
 pub mod Statements
 pub mod Levels
+pub mod Promise
