@@ -12,7 +12,8 @@ use Rattle.eql_grammar.specs.declared.grown.Bunch.{Bunch}
 use Rattle.eql_grammar.specs.declared.grown.GrownExpr.{GrownExpr}
 use Rattle.eql_grammar.specs.declared.grown.GrownShape.{GrownShape}
 use Rattle.eql_grammar.specs.declared.grown.Infix.{Infix}
-use Rattle.eql_grammar.specs.Words.{ASign, Reserved, Named, is_sign, is_word, same_sign, same_keyword, span, sign_of, word_of, comma_of, is_statement, name_of, parameter_of, literal_of, infix_of, prefix_of, prefix_in, infix_if, infix_in}
+use Rattle.eql_grammar.specs.Words.{is_sign, is_word, same_sign, same_keyword, span, sign_of, word_of, comma_of, is_statement, name_of, parameter_of, literal_of, infix_of, prefix_of, prefix_in, infix_if, infix_in}
+use Rattle.eql_grammar.specs.declared.class.Class.TheVariants.{Sign as ASign, Reserved, Named}
 use Rattle.eql_grammar.specs.Trees as t
 use Rattle.eql_grammar.specs.Trees.{unlimited}
 use Rattle.eql_grammar.specs.Grammar as g

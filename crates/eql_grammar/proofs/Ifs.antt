@@ -8,7 +8,8 @@ use Rattle.eql_grammar.specs.declared.grown.GrownExpr.{GrownExpr}
 use Rattle.eql_grammar.specs.declared.grown.Frame.{Frame}
 use Rattle.eql_grammar.specs.declared.grown.Frame.TheVariants as frame
 use Rattle.exact.specs.declared.rule.Rule.TheVariants.{Unexpected}
-use Rattle.eql_grammar.specs.Words.{Reserved, Named, same_sign, same_keyword, word_of}
+use Rattle.eql_grammar.specs.Words.{same_sign, same_keyword, word_of}
+use Rattle.eql_grammar.specs.declared.class.Class.TheVariants.{Reserved, Named}
 use Rattle.eql_grammar.specs.Trees as t
 use Rattle.eql_grammar.specs.Trees.{unlimited}
 use Rattle.eql_grammar.specs.Grammar as g

@@ -13,7 +13,8 @@ use Rattle.eql_grammar.specs.declared.grown.Body.TheVariants as body
 use Rattle.eql_grammar.specs.declared.grown.Nest.{Nest}
 use Rattle.eql_grammar.specs.declared.grown.Nest.TheVariants as nest
 use Rattle.eql_grammar.specs.declared.grown.Asked.{Asked}
-use Rattle.eql_grammar.specs.Words.{ASign, Reserved, is_sign, same_sign, same_keyword, word_of, sign_of, literal_of, name_of}
+use Rattle.eql_grammar.specs.Words.{is_sign, same_sign, same_keyword, word_of, sign_of, literal_of, name_of}
+use Rattle.eql_grammar.specs.declared.class.Class.TheVariants.{Sign as ASign, Reserved}
 use Rattle.eql_grammar.specs.Trees as t
 use Rattle.eql_grammar.specs.Trees.{unlimited}
 use Rattle.eql_grammar.specs.Grammar as g

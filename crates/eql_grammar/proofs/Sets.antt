@@ -18,7 +18,9 @@ use Rattle.ast.specs.declared.name.Name.{Name}
 use Rattle.ast.specs.declared.expression.Expr.{Expr}
 use Rattle.eql_grammar.specs.declared.grown.Infix.{Infix}
 use Rattle.eql_grammar.specs.declared.grown.Prefix.{Prefix}
-use Rattle.eql_grammar.specs.Words.{Class, ASign, Reserved, Named, Number, Literal, word_class, class_of_word, class_of, span, same_sign, same_keyword, same_class, is, is_sign, is_word, mark_of, sign_of, word_of, comma_of, is_statement, ends_aliases, either_word, name_in, name_of, parameter_of, number_or_text, literal_of, Leveled, infix_in, infix_if, infix_of, prefix_in, prefix_of, needed, need_of, wide, width_of, directed, direction_of, put, place_of}
+use Rattle.eql_grammar.specs.Words.{word_class, class_of_word, class_of, span, same_sign, same_keyword, same_class, is, is_sign, is_word, mark_of, sign_of, word_of, comma_of, is_statement, ends_aliases, either_word, name_in, name_of, parameter_of, number_or_text, literal_of, Leveled, infix_in, infix_if, infix_of, prefix_in, prefix_of, needed, need_of, wide, width_of, directed, direction_of, put, place_of}
+use Rattle.eql_grammar.specs.declared.class.Class.{Class}
+use Rattle.eql_grammar.specs.declared.class.Class.TheVariants.{Sign as ASign, Reserved, Named, Number, Literal}
 use Rattle.ast.specs.declared.operator.UnaryOperator.TheVariants as unary
 use Rattle.ast.specs.declared.shape.Need.TheVariants as need
 use Rattle.ast.specs.declared.shape.Width.TheVariants as width

@@ -23,7 +23,8 @@ use Rattle.eql_grammar.specs.declared.grown.Body.TheVariants as body
 use Rattle.eql_grammar.specs.declared.grown.Nest.{Nest}
 use Rattle.eql_grammar.specs.declared.grown.Nest.TheVariants as nest
 use Rattle.exact.specs.declared.rule.Rule.TheVariants.{Unexpected}
-use Rattle.eql_grammar.specs.Words.{ASign, Reserved, Named, is_sign, is_word, same_sign, same_keyword, word_class, sign_of, word_of, comma_of, is_statement, ends_aliases, name_of, needed, need_of, wide, width_of, directed, direction_of, place_of}
+use Rattle.eql_grammar.specs.Words.{is_sign, is_word, same_sign, same_keyword, word_class, sign_of, word_of, comma_of, is_statement, ends_aliases, name_of, needed, need_of, wide, width_of, directed, direction_of, place_of}
+use Rattle.eql_grammar.specs.declared.class.Class.TheVariants.{Sign as ASign, Reserved, Named}
 use Rattle.eql_grammar.specs.Trees as t
 use Rattle.eql_grammar.specs.Trees.{unlimited}
 use Rattle.eql_grammar.specs.Grammar as g

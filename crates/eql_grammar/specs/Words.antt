@@ -25,19 +25,13 @@ use Rattle.ast.specs.declared.shape.Width.{Width}
 use Rattle.ast.specs.declared.shape.Width.TheVariants as width
 use Rattle.ast.specs.declared.statement.EmptyPlace.{EmptyPlace}
 use Rattle.ast.specs.declared.statement.EmptyPlace.TheVariants as empty
+use Rattle.eql_grammar.specs.declared.class.Class.{Class}
+use Rattle.eql_grammar.specs.declared.class.Class.TheVariants.{Sign as ASign, Reserved, Named, Number, Literal}
 use Rattle.eql_grammar.specs.declared.grown.Infix.{Infix}
 use Rattle.eql_grammar.specs.declared.grown.Prefix.{Prefix}
 use Rattle.eql_grammar.specs.declared.grown.Qualified.{Qualified}
 use Rattle.eql_grammar.specs.declared.grown.Direction.{Direction}
 use Rattle.eql_grammar.specs.declared.grown.Placement.{Placement}
-
--- The class of a token: a sign, a word that is no name, a word that is one (and a keyword in its place, if it is one), a number, a literal.
-pub data Class : Type 0 where
-  ASign : Sign → Class
-  Reserved : Keyword → Class
-  Named : Option Keyword → Class
-  Number : Class
-  Literal : Class
 
 -- the class of a keyword
 abbrev pub word_class : Keyword → Class

@@ -3,9 +3,11 @@
 //! are one is proved in `proofs/`. The code that reads is in the crate above.
 #![tactic(auto)]
 
+mod class;
 mod grown;
 mod limits;
 
+pub use class::Class;
 pub use grown::{
     Asked, Body, Bunch, Direction, Elements, Frame, GrownAlias, GrownClauses, GrownElement,
     GrownExpr, GrownKey, GrownShape, GrownStatement, Head, Heads, Infix, Nest, Opening, Placement,
