@@ -61,7 +61,7 @@ lowered_open : (over : Bool) (mode : Mode) → over ≡ false → IsOpen mode �
 lowered_open true mode h o = absurd (let bad : true ≡ false = h in cc)
 lowered_open false mode h o = o
 
-lowered_text : (over : Bool) (mode : Mode) → HasText mode → HasText (lowered over mode)
+pub lowered_text : (over : Bool) (mode : Mode) → HasText mode → HasText (lowered over mode)
 lowered_text true Open t = tt
 lowered_text true Shut t = tt
 lowered_text true Void t = absurd t
@@ -316,13 +316,13 @@ exact_chain {T} {A} {mode} {S} {Z} {step} {first} {go} {inner} p begins items no
 
 -- Steps until one says that the loop is over. To be given: what is read where no token is left; that a step which goes on takes a token;
 -- that the rest of the loop does not go on with such a step, nor what follows the loop with its last step; and some text of the loop.
-pub exact_loop : {T A R : Type 0} {mode : Mode} {S Z : A → Lang T (Step A R)} {step : A → Reader T (Step A R)} {go : R → T → Bool} {inner : Step A R → T → Bool}
+pub exact_loop_with : {T A R : Type 0} {mode : Mode} {S Z : A → Lang T (Step A R)} {step : A → Reader T (Step A R)} {go : R → T → Bool} {inner : Step A R → T → Bool}
     (last : A → Reader T R) → ((a : A) → IsExactAt mode (S a) (Z a) (step a) inner) → ((a : A) (next : A → Reader T R) → last a [] ≡ and_then (step a []) (onward next))
     → ((n : ℕ) (a : A) (x : List T) (b : A) → S a n x (More b) → 0 < length x) → ((b : A) → Avoids (inner (More b)) (Loop S b) go) → ((r : R) → Covers (go r) (inner (Done r)))
-    → ((a : A) → Inhabited (Loop S a)) → (a : A) → IsExactAt mode (Loop S a) (Loop Z a) (loop last step a) go
-exact_loop {T} {A} {R} {mode} {S} {Z} {step} {go} {inner} last p at_end long apart sub some a = record {
-  exact = λ o. loop_is S last step go inner (λ a. (p a).exact o) at_end long apart sub some a;
-  some = λ t. some a;
+    → (HasText mode → (a : A) → Inhabited (Loop S a)) → (a : A) → IsExactAt mode (Loop S a) (Loop Z a) (loop last step a) go
+exact_loop_with {T} {A} {R} {mode} {S} {Z} {step} {go} {inner} last p at_end long apart sub some a = record {
+  exact = λ o. loop_is S last step go inner (λ a. (p a).exact o) at_end long apart sub (some (open_text mode o)) a;
+  some = λ t. some t a;
   grows = λ m n x e l. (l.0, turns_grow l.0 a m n x e l.1);
   loosens = λ m n x e le l. (l.0, turns_loosen l.0 a m n x e le l.1);
 }
@@ -342,6 +342,24 @@ exact_loop {T} {A} {R} {mode} {S} {Z} {step} {go} {inner} last p at_end long apa
     turns_loosen : (k : ℕ) (a : A) → Loosens (Turns S k a)
     turns_loosen zero a = λ m n x e le l. l
     turns_loosen (suc k) a = then_loosens (S a) (Onward (Turns S k)) (p a).loosens (onward_loosen k (turns_loosen k))
+
+-- The same of a loop that has some text whatever stands inside.
+pub exact_loop : {T A R : Type 0} {mode : Mode} {S Z : A → Lang T (Step A R)} {step : A → Reader T (Step A R)} {go : R → T → Bool} {inner : Step A R → T → Bool}
+    (last : A → Reader T R) → ((a : A) → IsExactAt mode (S a) (Z a) (step a) inner) → ((a : A) (next : A → Reader T R) → last a [] ≡ and_then (step a []) (onward next))
+    → ((n : ℕ) (a : A) (x : List T) (b : A) → S a n x (More b) → 0 < length x) → ((b : A) → Avoids (inner (More b)) (Loop S b) go) → ((r : R) → Covers (go r) (inner (Done r)))
+    → ((a : A) → Inhabited (Loop S a)) → (a : A) → IsExactAt mode (Loop S a) (Loop Z a) (loop last step a) go
+exact_loop {S = S} {Z = Z} {step = step} {go = go} {inner = inner} last p at_end long apart sub some a =
+    exact_loop_with {S = S} {Z = Z} {step = step} {go = go} {inner = inner} last p at_end long apart sub (λ _. some) a
+
+-- The same language in other words.
+pub exact_alike : {T A : Type 0} {mode : Mode} {L U M V : Lang T A} {P : Reader T A} {go : A → T → Bool} → ((n : ℕ) (x : List T) (a : A) → L n x a → M n x a) → ((n : ℕ) (x : List T) (a : A) → M n x a → L n x a)
+    → ((n : ℕ) (x : List T) (a : A) → U n x a → V n x a) → IsExactAt mode L U P go → IsExactAt mode M V P go
+exact_alike {T} {A} {mode} {L} {U} {M} {V} {P} {go} to back wide p = record {
+  exact = λ o. alike_is L M P go to back (p.exact o);
+  some = λ t. let s = p.some t in record { text = s.text; value = s.value; spelled = to 0 s.text s.value s.spelled };
+  grows = λ m n x a l. wide n x a (p.grows m n x a (back m x a l));
+  loosens = λ m n x a le l. to m x a (p.loosens m n x a le (back n x a l));
+}
 
 -- ---- items with commas between them, and maybe a last comma
 
