@@ -29,17 +29,17 @@ fn wide(alloc: Global) -> Result<MemSink, AllocError> {
     MemSink::new(alloc, 4096, List::new(alloc))
 }
 
-// What a run over devices in memory gave: its status, and what `out` and `err` have taken.
-#[derive(Drop)]
-struct Seen {
+// Whether a run over devices in memory ends with the status, with these texts at the sinks.
+fn ends(
+    alloc: Global,
+    line: &str,
+    query: &[u8],
     status: u8,
-    out: MemSink,
-    err: MemSink,
-}
-
-fn run(alloc: Global, line: &str, query: &[u8]) -> Result<Seen, AllocError> {
+    told: (&str, &str),
+) -> Result<bool, AllocError> {
     let mut shelf = shelf(alloc, query, &[])?;
-    let (mut out, mut err) = (wide(alloc)?, wide(alloc)?);
+    let mut out = wide(alloc)?;
+    let mut err = wide(alloc)?;
     let words = words(alloc, line)?;
     let outcome = run_words(
         alloc,
@@ -49,72 +49,73 @@ fn run(alloc: Global, line: &str, query: &[u8]) -> Result<Seen, AllocError> {
         &mut err,
         &OpenGate,
     );
-    Ok(Seen {
-        status: outcome.status(),
-        out,
-        err,
-    })
+    let (out_due, err_due) = told;
+    Ok(
+        outcome.status() == status
+            && out.taken() == out_due.as_bytes()
+            && err.taken() == err_due.as_bytes(),
+    )
 }
+
+// The words, the query, the status, and what `out` and `err` take.
+static RUNS: [(&str, &str, u8, &str, &str); 20] = [
+    ("const none none q", "select {2, 1} + 1", 0, "[3,2]\n", ""),
+    (
+        "const none none q",
+        "SELECT{1,2}+{10,20}",
+        0,
+        "[11,21,12,22]\n",
+        "",
+    ),
+    ("const none none q", " \t\r\nselect\n007 ", 0, "[7]\n", ""),
+    (
+        "const none none q",
+        "select 9223372036854775807",
+        0,
+        "[9223372036854775807]\n",
+        "",
+    ),
+    (
+        "const none none q",
+        "select 9223372036854775807 + 1",
+        9,
+        "",
+        "run fault 1\n",
+    ),
+    (
+        "const none none q",
+        "select {1, 9223372036854775807} + 1",
+        9,
+        "",
+        "run fault 1\n",
+    ),
+    (
+        "const none none q",
+        "select 9223372036854775808",
+        8,
+        "",
+        "query unbuilt\n",
+    ),
+    ("const none none q", "select {1", 8, "", "query unbuilt\n"),
+    ("const none none q", "select {}", 8, "", "query unbuilt\n"),
+    ("const none none q", "select {1,}", 8, "", "query unbuilt\n"),
+    ("const none none q", "select 1 + ", 8, "", "query unbuilt\n"),
+    ("const none none q", "select 12x", 8, "", "query unbuilt\n"),
+    ("const none none q", "select1", 8, "", "query unbuilt\n"),
+    ("const none none q", "", 8, "", "query unbuilt\n"),
+    ("const none none r", "select 1", 3, "", "read query\n"),
+    ("const none none", "select 1", 2, "", "usage U1\n"),
+    ("", "select 1", 2, "", "usage U1\n"),
+    ("const none none q q", "select 1", 2, "", "usage U1\n"),
+    ("fly none none q", "select 1", 2, "", "usage U2\n"),
+    ("CONST none none q", "select 1", 2, "", "usage U2\n"),
+];
 
 #[test]
 fn answers_worked_queries(rt: HostRuntime) -> Result<(), Fail> {
-    let rows = [
-        ("const none none q", "select {2, 1} + 1", 0, "[3,2]\n", ""),
-        (
-            "const none none q",
-            "SELECT{1,2}+{10,20}",
-            0,
-            "[11,21,12,22]\n",
-            "",
-        ),
-        ("const none none q", " \t\r\nselect\n007 ", 0, "[7]\n", ""),
-        (
-            "const none none q",
-            "select 9223372036854775807",
-            0,
-            "[9223372036854775807]\n",
-            "",
-        ),
-        (
-            "const none none q",
-            "select 9223372036854775807 + 1",
-            9,
-            "",
-            "run fault 1\n",
-        ),
-        (
-            "const none none q",
-            "select {1, 9223372036854775807} + 1",
-            9,
-            "",
-            "run fault 1\n",
-        ),
-        (
-            "const none none q",
-            "select 9223372036854775808",
-            8,
-            "",
-            "query unbuilt\n",
-        ),
-        ("const none none q", "select {1", 8, "", "query unbuilt\n"),
-        ("const none none q", "select {}", 8, "", "query unbuilt\n"),
-        ("const none none q", "select {1,}", 8, "", "query unbuilt\n"),
-        ("const none none q", "select 1 + ", 8, "", "query unbuilt\n"),
-        ("const none none q", "select 12x", 8, "", "query unbuilt\n"),
-        ("const none none q", "select1", 8, "", "query unbuilt\n"),
-        ("const none none q", "", 8, "", "query unbuilt\n"),
-        ("const none none r", "select 1", 3, "", "read query\n"),
-        ("const none none", "select 1", 2, "", "usage U1\n"),
-        ("", "select 1", 2, "", "usage U1\n"),
-        ("const none none q q", "select 1", 2, "", "usage U1\n"),
-        ("fly none none q", "select 1", 2, "", "usage U2\n"),
-        ("CONST none none q", "select 1", 2, "", "usage U2\n"),
-    ];
-    for (line, query, status, out, err) in rows {
-        let got = run(rt.alloc(), line, query.as_bytes())?;
-        assert_eq!(rt; got.status, status, "{line}: {query}");
-        assert_eq!(rt; got.out.taken(), out.as_bytes(), "{line}: {query}");
-        assert_eq!(rt; got.err.taken(), err.as_bytes(), "{line}: {query}");
+    for (line, query, status, out, err) in &RUNS {
+        let is_so = ends(rt.alloc(), line, query.as_bytes(), *status, (out, err))?;
+        assert!(rt; is_so, "{line}: {query}");
     }
     Ok(())
 }
@@ -128,87 +129,102 @@ fn ones(alloc: Global, terms: usize) -> Result<Vec<u8>, AllocError> {
     Ok(query)
 }
 
+fn ends_of_ones(alloc: Global, terms: usize, told: (&str, &str)) -> Result<bool, AllocError> {
+    let status = if told.1.is_empty() { 0 } else { 8 };
+    ends(
+        alloc,
+        "const none none q",
+        ones(alloc, terms)?.as_slice(),
+        status,
+        told,
+    )
+}
+
 #[test]
 fn takes_fifty_terms(rt: HostRuntime) -> Result<(), Fail> {
-    let most = run(
-        rt.alloc(),
-        "const none none q",
-        ones(rt.alloc(), 50)?.as_slice(),
-    )?;
-    assert_eq!(rt; most.out.taken(), b"[50]\n".as_slice());
-    let more = run(
-        rt.alloc(),
-        "const none none q",
-        ones(rt.alloc(), 51)?.as_slice(),
-    )?;
-    assert_eq!(rt; more.err.taken(), b"query unbuilt\n".as_slice());
+    assert!(rt; ends_of_ones(rt.alloc(), 50, ("[50]\n", ""))?);
+    assert!(rt; ends_of_ones(rt.alloc(), 51, ("", "query unbuilt\n"))?);
     Ok(())
+}
+
+// Whether an `out` with this room takes what fits, and this is told by the outcome alone.
+fn tells_out(alloc: Global, room: u64) -> Result<bool, AllocError> {
+    let words = words(alloc, "const none none q")?;
+    let mut shelf = shelf(alloc, b"select {2, 1} + 1", &[])?;
+    let mut out = MemSink::new(alloc, room, List::new(alloc))?;
+    let mut err = wide(alloc)?;
+    let outcome = run_words(
+        alloc,
+        words.as_slice(),
+        &mut shelf,
+        &mut out,
+        &mut err,
+        &OpenGate,
+    );
+    let due = &b"[3,2]\n"[..(room as usize).min(6)];
+    Ok(
+        matches!(outcome, Outcome::WriteFault(Chan::Out))
+            && out.taken() == due
+            && err.taken().is_empty(),
+    )
 }
 
 #[test]
 fn tells_a_failing_out(rt: HostRuntime) -> Result<(), Fail> {
-    let words = words(rt.alloc(), "const none none q")?;
     for room in 0..6u64 {
-        let mut shelf = shelf(rt.alloc(), b"select {2, 1} + 1", &[])?;
-        let mut out = MemSink::new(rt.alloc(), room, List::new(rt.alloc()))?;
-        let mut err = wide(rt.alloc())?;
-        let outcome = run_words(
-            rt.alloc(),
-            words.as_slice(),
-            &mut shelf,
-            &mut out,
-            &mut err,
-            &OpenGate,
-        );
-        assert!(rt;
-            matches!(outcome, Outcome::WriteFault(Chan::Out)),
-            "room for {room}"
-        );
-        let end = (room as usize).min(6);
-        assert_eq!(rt; out.taken(), &b"[3,2]\n"[..end], "room for {room}");
-        assert!(rt; err.taken().is_empty(), "room for {room}");
+        assert!(rt; tells_out(rt.alloc(), room)?, "room for {room}");
     }
     Ok(())
 }
 
-#[test]
-fn tells_a_failing_shelf(rt: HostRuntime) -> Result<(), Fail> {
-    let words = words(rt.alloc(), "const none none q")?;
-    let mut shelf = shelf(rt.alloc(), b"select {2, 1} + 1", &[0])?;
-    let (mut out, mut err) = (wide(rt.alloc())?, wide(rt.alloc())?);
+// Whether a shelf whose first call fails is told, with one call.
+fn tells_shelf(alloc: Global) -> Result<bool, AllocError> {
+    let words = words(alloc, "const none none q")?;
+    let mut shelf = shelf(alloc, b"select {2, 1} + 1", &[0])?;
+    let mut out = wide(alloc)?;
+    let mut err = wide(alloc)?;
     let outcome = run_words(
-        rt.alloc(),
+        alloc,
         words.as_slice(),
         &mut shelf,
         &mut out,
         &mut err,
         &OpenGate,
     );
-    assert_eq!(rt; outcome.status(), 3);
-    assert!(rt; out.taken().is_empty());
-    assert_eq!(rt; err.taken(), b"read query\n".as_slice());
-    assert_eq!(rt; shelf.calls().len(), 1);
-    Ok(())
+    Ok(
+        outcome.status() == 3
+            && out.taken().is_empty()
+            && err.taken() == b"read query\n".as_slice()
+            && shelf.calls().len() == 1,
+    )
+}
+
+// Whether an `err` that fails after three bytes is told, with no call of the shelf.
+fn tells_err(alloc: Global) -> Result<bool, AllocError> {
+    let words = words(alloc, "fly s d q")?;
+    let mut shelf = shelf(alloc, b"select 1", &[])?;
+    let mut out = wide(alloc)?;
+    let failing = List::from_slice(alloc, &[FailingPut { call: 0, takes: 3 }])?;
+    let mut err = MemSink::new(alloc, 4096, failing)?;
+    let outcome = run_words(
+        alloc,
+        words.as_slice(),
+        &mut shelf,
+        &mut out,
+        &mut err,
+        &OpenGate,
+    );
+    Ok(
+        matches!(outcome, Outcome::WriteFault(Chan::Err))
+            && out.taken().is_empty()
+            && err.taken() == b"usa".as_slice()
+            && shelf.calls().is_empty(),
+    )
 }
 
 #[test]
-fn tells_a_failing_err(rt: HostRuntime) -> Result<(), Fail> {
-    let words = words(rt.alloc(), "fly s d q")?;
-    let mut shelf = shelf(rt.alloc(), b"select 1", &[])?;
-    let mut out = wide(rt.alloc())?;
-    let failing = List::from_slice(rt.alloc(), &[FailingPut { call: 0, takes: 3 }])?;
-    let mut err = MemSink::new(rt.alloc(), 4096, failing)?;
-    let outcome = run_words(
-        rt.alloc(),
-        words.as_slice(),
-        &mut shelf,
-        &mut out,
-        &mut err,
-        &OpenGate,
-    );
-    assert!(rt; matches!(outcome, Outcome::WriteFault(Chan::Err)));
-    assert!(rt; out.taken().is_empty());
-    assert_eq!(rt; err.taken(), b"usa".as_slice());
-    assert!(rt; shelf.calls().is_empty());
+fn tells_failing_devices(rt: HostRuntime) -> Result<(), Fail> {
+    assert!(rt; tells_shelf(rt.alloc())?);
+    assert!(rt; tells_err(rt.alloc())?);
     Ok(())
 }
