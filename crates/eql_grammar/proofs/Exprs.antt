@@ -1,28 +1,25 @@
 -- The readers of expressions are exact for the grammar, up to the nested `if`s.
-use Rattle.std.proofs.Common.{◌≡◌, ℕ, zero, suc, ◌+◌, ◌≤◌, ◌<◌, Bool, true, false, not, ◌||◌, ◌==◌, List, [], Option, Some, None, refl, sym, ap, subst, arith}
+use Rattle.std.proofs.Common.{◌≡◌, ℕ, suc, ◌+◌, ◌<◌, Bool, true, false, not, ◌==◌, refl, ap, arith}
 use Rattle.std.proofs.Math.Dec.{eqb-suc-zero}
 use Rattle.ev_lex.specs.declared.token.Token.{Token}
 use Rattle.ev_lex.specs.declared.token.Sign.TheVariants as sign
 use Rattle.ev_lex.specs.declared.keyword.Keyword.TheVariants as keyword
 use Rattle.ast.specs.declared.name.Span.{Span}
-use Rattle.ast.specs.declared.name.Name.{Name}
 use Rattle.ast.specs.declared.name.QualifiedName.{QualifiedName}
-use Rattle.ast.specs.declared.operator.UnaryOperator.TheVariants as unary
 use Rattle.eql_grammar.specs.declared.grown.Bunch.{Bunch}
 use Rattle.eql_grammar.specs.declared.grown.GrownExpr.{GrownExpr}
 use Rattle.eql_grammar.specs.declared.grown.GrownShape.{GrownShape}
-use Rattle.eql_grammar.specs.declared.grown.Infix.{Infix}
-use Rattle.eql_grammar.specs.Words.{is_sign, is_word, same_sign, same_keyword, span, sign_of, word_of, comma_of, is_statement, name_of, parameter_of, literal_of, infix_of, prefix_of, prefix_in, infix_if, infix_in}
-use Rattle.eql_grammar.specs.declared.class.Class.TheVariants.{Sign as ASign, Reserved, Named}
+use Rattle.eql_grammar.specs.Words.{is_sign, is_word, same_sign, same_keyword, span, sign_of, word_of, is_statement, name_of, parameter_of, literal_of, infix_of, prefix_of, prefix_in, infix_if, infix_in}
+use Rattle.eql_grammar.specs.declared.class.Class.TheVariants.{Sign as ASign, Reserved}
 use Rattle.eql_grammar.specs.Trees as t
 use Rattle.eql_grammar.specs.Trees.{unlimited}
 use Rattle.eql_grammar.specs.Grammar as g
 use Rattle.eql_grammar.specs.Readers as r
-use Rattle.exact.specs.Language.{Lang, Empty, One, OneWithin, Then, Either}
+use Rattle.exact.specs.Language.{Lang, Empty, One, Then, Either}
 use Rattle.exact.specs.Reading.{Reader, has, inside}
-use Rattle.exact.proofs.Heads.{Begins, Avoids, never, begins_never, begins_one, begins_then, begins_either, begins_in, avoids_begins, avoids_begun, avoids_empty, avoids_either, avoids_none, avoids_chain}
+use Rattle.exact.proofs.Heads.{Begins, Avoids, never, begins_one, begins_then, begins_either, begins_in, avoids_begins, avoids_begun, avoids_empty, avoids_either, avoids_none, avoids_chain}
 use Rattle.exact.proofs.Single.{has_some}
-use Rattle.exact.proofs.Laws.{Mode, Open, Shut, Void, lowered, IsExactAt, exact_pure, exact_one, exact_one_within, exact_then, exact_map, exact_lead, exact_open, exact_behind, exact_within, exact_choose, exact_chain, exact_items, exact_weaken}
+use Rattle.exact.proofs.Laws.{Mode, lowered, IsExactAt, exact_pure, exact_one, exact_one_within, exact_then, exact_map, exact_lead, exact_open, exact_behind, exact_within, exact_choose, exact_chain, exact_items, exact_weaken}
 use Rattle.eql_grammar.proofs.Sets.{At, AtLiterals, AtNames, SomeInfix, a_sign, at_mark, at_name, atom_at, atom_in, atom_starts, avoids_mark, avoids_one_mark, begins_infix, begins_literal, begins_mark, begins_name, begins_one_mark, begins_prefix, behind, closes_mark, comma_some, covers_mark, element_go, go, got, lacks_mark, lead, level_apart, level_covers, list_go, literal_at, negation_at, negation_starts, opening, opening_behind, operand_at, operand_in, operand_out, operand_starts, or_cases, or_false, or_left, or_one, or_other, or_right, outside_mark, prefix_in_unary, some_and, some_coalesce, some_comma, some_equal, some_literal, some_name, some_or, some_plus, some_prefix, some_sign, some_star, start_at, starts, tighter, unary_at, unary_in, unary_starts, word_Else, word_Global, word_If, word_In, word_Is, word_Not, word_Optional}
 
 -- What is known of the languages and readers of a level, U being the same with no limit passed.

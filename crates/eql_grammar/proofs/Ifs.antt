@@ -1,9 +1,8 @@
 -- Nested `if`s: read with a stack, they are what the grammar says.
-use Rattle.std.proofs.Common.{◌≡◌, ℕ, zero, suc, ◌+◌, ◌-◌, ◌≤◌, ◌<◌, Bool, true, false, not, ◌||◌, ◌==◌, List, [], ◌∷◌, ◌++◌, length, Option, Some, None, append-nil, refl, sym, ap, subst, ◌∙◌, arith, inl, inr, ◌⊎◌}
+use Rattle.std.proofs.Common.{◌≡◌, ℕ, zero, suc, ◌+◌, ◌-◌, ◌≤◌, ◌<◌, Bool, false, ◌||◌, ◌==◌, List, [], ◌∷◌, ◌++◌, length, Some, append-nil, refl, sym, ap, subst, ◌∙◌, arith, inl, inr}
 use Rattle.std.proofs.Math.Dec.{eqb-suc-zero}
 use Rattle.ev_lex.specs.declared.token.Token.{Token}
 use Rattle.ev_lex.specs.declared.keyword.Keyword.TheVariants as keyword
-use Rattle.ast.specs.declared.name.Span.{Span}
 use Rattle.eql_grammar.specs.declared.grown.GrownExpr.{GrownExpr}
 use Rattle.eql_grammar.specs.declared.grown.Frame.{Frame}
 use Rattle.eql_grammar.specs.declared.grown.Frame.TheVariants as frame
@@ -17,9 +16,9 @@ use Rattle.eql_grammar.specs.Readers as r
 use Rattle.eql_grammar.specs.Readers.{Waiting, Want, Have, settled}
 use Rattle.exact.specs.Language.{Lang, Empty, One, OneWithin, Then, Either, Step, More, Done, Onward, Turns, Loop}
 use Rattle.exact.specs.Reading.{Reader, Outcome, Stop, and_then, onward, refuse}
-use Rattle.exact.proofs.Heads.{Begins, Avoids, Covers, BeginsIn, never, begins_long, begins_then, begins_either, begins_in, avoids_begins, avoids_none}
+use Rattle.exact.proofs.Heads.{Begins, Avoids, Covers, never, begins_long, begins_then, begins_either, begins_in, avoids_begins, avoids_none}
 use Rattle.exact.proofs.Exact.{Inhabited}
-use Rattle.exact.proofs.Laws.{Mode, lowered, lowered_text, IsExactAt, exact_pure, exact_then, exact_map, exact_choose, exact_weaken, exact_loop_with, exact_alike}
+use Rattle.exact.proofs.Laws.{Mode, lowered, lowered_text, IsExactAt, exact_pure, exact_map, exact_choose, exact_weaken, exact_loop_with, exact_alike}
 use Rattle.eql_grammar.proofs.Sets.{at_mark, begins_mark, begins_one_mark, behind, go, lacks_mark, lead, negation_at, negation_in, negation_starts, opening_behind, or_right, some_set, start_at, starts, word_Else, word_If, word_Then}
 use Rattle.eql_grammar.proofs.Turning.{Within, then_within, first_within, regroup_right, regroup_left, empty_before, empty_gone, loop_fold, loop_begins, some_turn, mapped, led}
 use Rattle.eql_grammar.proofs.Exprs.{Known, exact_conditional, conditional_begins, exact_operators}
@@ -256,15 +255,17 @@ module _ (depth : ℕ) (high : ℕ → Bool) (L : g.Inner) where
       → (k : ℕ) × Then (g.Choices depth high L k) (ThenPart k j start frames) n x v
   condition_from j ih i lt start frames n x v t =
       let q = ih i lt (frame.Condition start ∷ frames) n x v t in
-      let m = then_from j ih q.1.second.0 (let less = q.1.second.1 in omega arith) start frames q.1.value (n - length q.1.front) q.1.back v q.1.second.2 in
-      (m.0 + q.0, record {
-        front = q.1.front;
-        back = q.1.back;
-        value = q.1.value;
-        parts = q.1.parts;
-        first = lift m.0 q.0 n q.1.front q.1.value q.1.first;
-        second = then_within (λ _. first_within (lift_other q.0 m.0)) (n - length q.1.front) q.1.back v m.1;
-      })
+      let m = then_from j ih q.1.second.0 (let less = q.1.second.1 in omega arith) start frames q.1.value (n - length q.1.front) q.1.back v q.1.second.2 in (
+        m.0 + q.0,
+        record {
+          front = q.1.front;
+          back = q.1.back;
+          value = q.1.value;
+          parts = q.1.parts;
+          first = lift m.0 q.0 n q.1.front q.1.value q.1.first;
+          second = then_within (λ _. first_within (lift_other q.0 m.0)) (n - length q.1.front) q.1.back v m.1;
+        },
+      )
 
   gather : (C : Lang Token GrownExpr) (K : GrownExpr → Lang Token GrownExpr) → Within (Around C K) (Then (IfThen C) K)
   gather C K n x v l =
@@ -276,9 +277,11 @@ module _ (depth : ℕ) (high : ℕ → Bool) (L : g.Inner) where
       let q = then_within (λ at. empty_gone (More (Want (frame.Condition at.start ∷ frames))) (Onward (Turns (Turn depth high L) i))) n x v (regroup_right (One (word_of keyword.If)) (λ at. Empty (More (Want (frame.Condition at.start ∷ frames)))) (Onward (Turns (Turn depth high L) i)) n x v (record { front = front; back = back; value = w; parts = parts; first = f; second = s })) in
       let m = condition_from (suc i) ih i (omega arith) q.value.start frames (n - length q.front) q.back v q.second in
       (suc m.0, first_within (λ n x v l. inl l) n x v (gather (g.Choices depth high L m.0) (λ y. Fewer (suc i) (settled frames y)) n x v (record { front = q.front; back = q.back; value = q.value; parts = q.parts; first = q.first; second = m.1 })))
-  step_from i ih frames n x front back w v parts (inr f) s =
-      (zero, then_within (λ y n x v l. fewer i (suc i) (omega arith) (settled frames y) n x v (empty_gone (settled frames y) (Onward (Turns (Turn depth high L) i)) n x v l)) n x v
-      (regroup_right (g.Conditional depth high L) (λ y. Empty (settled frames y)) (Onward (Turns (Turn depth high L) i)) n x v (record { front = front; back = back; value = w; parts = parts; first = f; second = s })))
+  step_from i ih frames n x front back w v parts (inr f) s = (
+    zero,
+    then_within (λ y n x v l. fewer i (suc i) (omega arith) (settled frames y) n x v (empty_gone (settled frames y) (Onward (Turns (Turn depth high L) i)) n x v l)) n x v
+        (regroup_right (g.Conditional depth high L) (λ y. Empty (settled frames y)) (Onward (Turns (Turn depth high L) i)) n x v (record { front = front; back = back; value = w; parts = parts; first = f; second = s })),
+  )
 
   turns_from : (j : ℕ) → ((i : ℕ) → i < j → Parts i) → Parts j
   turns_from zero ih frames n x v t = absurd t

@@ -1,25 +1,21 @@
 -- Level by level: what is read within so many open parts is what the grammar spells there.
-use Rattle.std.proofs.Common.{◌≡◌, ℕ, zero, suc, ◌+◌, ◌<◌, Bool, true, false, not, ◌||◌, ◌==◌, [], ◌++◌, List, refl, sym, subst, arith, inl, inr}
+use Rattle.std.proofs.Common.{ℕ, zero, suc, ◌+◌, ◌<◌, Bool, ◌||◌, ◌==◌, [], ◌++◌, refl, sym, subst, arith, inr}
 use Rattle.std.proofs.Math.Dec.{eqb-suc-zero}
 use Rattle.ev_lex.specs.declared.token.Token.{Token}
 use Rattle.ev_lex.specs.declared.token.Sign.TheVariants as sign
 use Rattle.ev_lex.specs.declared.keyword.Keyword.TheVariants as keyword
 use Rattle.eql_grammar.specs.declared.grown.GrownExpr.{GrownExpr}
-use Rattle.eql_grammar.specs.declared.grown.GrownElement.{GrownElement}
-use Rattle.eql_grammar.specs.declared.grown.Heads.{Heads}
 use Rattle.eql_grammar.specs.declared.grown.Opening.{Opening}
 use Rattle.eql_grammar.specs.declared.grown.Opening.TheVariants as opens
 use Rattle.eql_grammar.specs.declared.grown.Body.TheVariants as body
-use Rattle.eql_grammar.specs.declared.grown.Nest.{Nest}
 use Rattle.eql_grammar.specs.declared.grown.Nest.TheVariants as nest
-use Rattle.eql_grammar.specs.declared.grown.Asked.{Asked}
-use Rattle.eql_grammar.specs.Words.{is_sign, same_sign, same_keyword, word_of, sign_of, literal_of, name_of}
-use Rattle.eql_grammar.specs.declared.class.Class.TheVariants.{Sign as ASign, Reserved}
+use Rattle.eql_grammar.specs.Words.{is_sign, same_sign, same_keyword, word_of, literal_of, name_of}
+use Rattle.eql_grammar.specs.declared.class.Class.TheVariants.{Sign as ASign}
 use Rattle.eql_grammar.specs.Trees as t
 use Rattle.eql_grammar.specs.Trees.{unlimited}
 use Rattle.eql_grammar.specs.Grammar as g
 use Rattle.eql_grammar.specs.Readers as r
-use Rattle.exact.specs.Language.{Lang, Empty, Then, Done, Loop}
+use Rattle.exact.specs.Language.{Lang, Done}
 use Rattle.exact.proofs.Heads.{begins_never, begins_then, avoids_empty, avoids_either}
 use Rattle.exact.proofs.Exact.{Inhabited}
 use Rattle.exact.proofs.Laws.{Mode, Open, Shut, Void, lowered, IsExactAt, exact_void, exact_unread, exact_shut, exact_pure, exact_then, exact_choose, some_empty, some_one, some_within, some_then, some_left, some_right, some_chain}

@@ -1,9 +1,9 @@
 -- What is promised of the readers of queries and of expressions.
-use Rattle.std.proofs.Common.{◌≡◌, ℕ, suc, ◌+◌, ◌≤◌, List, [], ◌++◌, length, ap, ◌∙◌, sym, subst, arith}
+use Rattle.std.proofs.Common.{◌≡◌, ℕ, suc, ◌+◌, ◌≤◌, List, [], length, ap, ◌∙◌, sym, arith}
 use Rattle.exact.specs.declared.rule.Rule.{Rule}
 use Rattle.exact.specs.Language.{Lang}
-use Rattle.exact.specs.Reading.{Reader, Got, Stop, whole, heads}
-use Rattle.exact.specs.Promise.{Any, Spells, IsRefused, IsPrefix, Ended}
+use Rattle.exact.specs.Reading.{Reader, Got, Stop, whole}
+use Rattle.exact.specs.Promise.{Spells, IsRefused, IsPrefix, Ended}
 use Rattle.exact.proofs.Exact.{IsExact}
 use Rattle.exact.proofs.Laws.{Grows, Loosens, Open}
 use Rattle.exact.proofs.Whole.{one_value_alone, one_value, whole_found, whole_only, whole_refused, whole_left, refused_once, spelled_not_refused, stop_refused, got_prefix, one_prefix, any_loosens, ended_loosens}

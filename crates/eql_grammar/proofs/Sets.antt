@@ -1,5 +1,5 @@
 -- Sets of tokens: signs and keywords, those with which a text goes on, and those that begin one.
-use Rattle.std.proofs.Common.{◌≡◌, ℕ, ◌+◌, ◌≤◌, ◌<◌, Bool, true, false, not, cond, ◌||◌, ◌==◌, List, [], Option, Some, None, codes, refl, sym, ap, subst, ◌∙◌, arith, inl, inr, ◌⊎◌}
+use Rattle.std.proofs.Common.{◌≡◌, ℕ, ◌+◌, ◌≤◌, ◌<◌, Bool, true, false, not, cond, ◌||◌, ◌==◌, Option, Some, None, codes, refl, sym, ap, ◌∙◌, arith, inl, inr, ◌⊎◌}
 use Rattle.std.proofs.Math.Dec.{leb}
 use Rattle.std.proofs.lemmas.Bool.{lt-leb, leb-false, eqb-true}
 use denote.Enum.Bare.{same_true, true_same}
@@ -11,14 +11,15 @@ use Rattle.ev_lex.specs.declared.token.Sign.{Sign}
 use Rattle.ev_lex.specs.declared.token.Sign.TheVariants as sign
 use Rattle.ev_lex.specs.declared.keyword.Keyword.{Keyword}
 use Rattle.ev_lex.specs.declared.keyword.Keyword.TheVariants as keyword
-use Rattle.ev_lex.specs.Keyword.{keyword_text, keyword_of, is_reserved, IsWordOf}
+use Rattle.ev_lex.specs.Keyword.{keyword_text, keyword_of, IsWordOf}
 use Rattle.ev_lex.proofs.Keywords.{keyword_found}
 use Rattle.ast.specs.declared.name.Span.{Span}
 use Rattle.ast.specs.declared.name.Name.{Name}
 use Rattle.ast.specs.declared.expression.Expr.{Expr}
+use Rattle.eql_grammar.specs.declared.grown.Leveled.{Leveled}
 use Rattle.eql_grammar.specs.declared.grown.Infix.{Infix}
 use Rattle.eql_grammar.specs.declared.grown.Prefix.{Prefix}
-use Rattle.eql_grammar.specs.Words.{word_class, class_of_word, class_of, span, same_sign, same_keyword, same_class, is, is_sign, is_word, mark_of, sign_of, word_of, comma_of, is_statement, ends_aliases, either_word, name_in, name_of, parameter_of, number_or_text, literal_of, Leveled, infix_in, infix_if, infix_of, prefix_in, prefix_of, needed, need_of, wide, width_of, directed, direction_of, put, place_of}
+use Rattle.eql_grammar.specs.Words.{word_class, class_of_word, class_of, span, same_sign, same_keyword, same_class, is, is_sign, is_word, mark_of, comma_of, ends_aliases, either_word, name_in, name_of, parameter_of, number_or_text, literal_of, infix_in, infix_if, infix_of, prefix_in, prefix_of, needed, need_of, wide, width_of, directed, direction_of, put, place_of}
 use Rattle.eql_grammar.specs.declared.class.Class.{Class}
 use Rattle.eql_grammar.specs.declared.class.Class.TheVariants.{Sign as ASign, Reserved, Named, Number, Literal}
 use Rattle.ast.specs.declared.operator.UnaryOperator.TheVariants as unary
@@ -28,9 +29,9 @@ use Rattle.ast.specs.declared.statement.EmptyPlace.TheVariants as empty
 use Rattle.eql_grammar.specs.declared.grown.Qualified.{Qualified}
 use Rattle.eql_grammar.specs.declared.grown.Direction.{Direction}
 use Rattle.eql_grammar.specs.declared.grown.Placement.{Placement}
-use Rattle.exact.specs.Language.{Lang, One, OneWithin, Then, Either}
+use Rattle.exact.specs.Language.{Lang, One, OneWithin, Then}
 use Rattle.exact.specs.Reading.{Reader, has, inside, one, one_within, ◌>>=◌}
-use Rattle.exact.proofs.Heads.{Begins, Avoids, never, begins_one, begins_one_within, begins_then, avoids_begins, avoids_begun}
+use Rattle.exact.proofs.Heads.{Begins, Avoids, begins_one, begins_one_within, begins_then, avoids_begun}
 use Rattle.exact.proofs.Single.{has_some}
 use Rattle.exact.proofs.Laws.{Mode, lowered, IsExactAt, exact_lead, exact_behind, exact_open, exact_within}
 
@@ -118,7 +119,6 @@ a_sign s = record { kind = kind.Sign s; start = 0; end = 0 }
 
 abbrev pub a_word : Keyword → Token
 a_word k = record { kind = kind.Word (keyword_text k); start = 0; end = 0 }
-
 
 pub some_sign : (s : Sign) → Sample (ASign s)
 unfolding class_of same_sign
@@ -612,4 +612,3 @@ element_covers set comma brace t h =
 pub aliases_cover : (set : Token → Bool) → At (Reserved keyword.For) set false → At (Reserved keyword.Select) set false → (t : Token) → inside ends_aliases t ≡ false → set t ≡ false
 aliases_cover set for_out select_out t h =
     or_cases (is_word keyword.For t) (is_word keyword.Select t) (not_true (ends_aliases t) h) (at_mark (Reserved keyword.For) for_out t) (at_mark (Reserved keyword.Select) select_out t)
-

@@ -1,20 +1,16 @@
 -- The readers of clauses, elements and statements are exact for the grammar.
-use Rattle.std.proofs.Common.{◌≡◌, ℕ, zero, suc, ◌+◌, ◌-◌, ◌≤◌, ◌<◌, Bool, true, false, not, cond, ◌||◌, ◌==◌, List, [], ◌∷◌, ◌++◌, length, Option, Some, None, refl, sym, ap, subst, arith, inl, inr, ◌⊎◌}
+use Rattle.std.proofs.Common.{◌≡◌, ℕ, suc, ◌≤◌, ◌<◌, Bool, true, false, ◌||◌, ◌==◌, List, [], ◌++◌, length, Some, None, refl, sym, ap, arith, inr}
 use Rattle.std.proofs.Math.Dec.{eqb-suc-zero}
 use Rattle.ev_lex.specs.declared.token.Token.{Token}
 use Rattle.ev_lex.specs.declared.token.Sign.TheVariants as sign
 use Rattle.ev_lex.specs.declared.keyword.Keyword.TheVariants as keyword
-use Rattle.ast.specs.declared.name.Span.{Span}
 use Rattle.ast.specs.declared.name.Name.{Name}
 use Rattle.ast.specs.declared.shape.Need.TheVariants as need
 use Rattle.ast.specs.declared.shape.Width.TheVariants as width
 use Rattle.eql_grammar.specs.declared.grown.GrownExpr.{GrownExpr}
 use Rattle.eql_grammar.specs.declared.grown.GrownElement.{GrownElement}
 use Rattle.eql_grammar.specs.declared.grown.GrownClauses.{GrownClauses}
-use Rattle.eql_grammar.specs.declared.grown.GrownKey.{GrownKey}
 use Rattle.eql_grammar.specs.declared.grown.Direction.{Direction}
-use Rattle.eql_grammar.specs.declared.grown.Qualified.{Qualified}
-use Rattle.eql_grammar.specs.declared.grown.GrownAlias.{GrownAlias}
 use Rattle.eql_grammar.specs.declared.grown.With.{With}
 use Rattle.eql_grammar.specs.declared.grown.Heads.{Heads}
 use Rattle.eql_grammar.specs.declared.grown.Opening.{Opening}
@@ -23,7 +19,7 @@ use Rattle.eql_grammar.specs.declared.grown.Body.TheVariants as body
 use Rattle.eql_grammar.specs.declared.grown.Nest.{Nest}
 use Rattle.eql_grammar.specs.declared.grown.Nest.TheVariants as nest
 use Rattle.exact.specs.declared.rule.Rule.TheVariants.{Unexpected}
-use Rattle.eql_grammar.specs.Words.{is_sign, is_word, same_sign, same_keyword, word_class, sign_of, word_of, comma_of, is_statement, ends_aliases, name_of, needed, need_of, wide, width_of, directed, direction_of, place_of}
+use Rattle.eql_grammar.specs.Words.{is_sign, same_sign, same_keyword, sign_of, is_statement, ends_aliases, name_of, needed, need_of, wide, width_of, directed, direction_of, place_of}
 use Rattle.eql_grammar.specs.declared.class.Class.TheVariants.{Sign as ASign, Reserved, Named}
 use Rattle.eql_grammar.specs.Trees as t
 use Rattle.eql_grammar.specs.Trees.{unlimited}
@@ -31,9 +27,9 @@ use Rattle.eql_grammar.specs.Grammar as g
 use Rattle.eql_grammar.specs.Grammar.{turned}
 use Rattle.eql_grammar.specs.Readers as r
 use Rattle.ast.specs.Expression.{span_of}
-use Rattle.exact.specs.Language.{Lang, Empty, One, OneWithin, Then, Either, Step, More, Done, Onward, Turns, Loop}
+use Rattle.exact.specs.Language.{Lang, Empty, One, Then, Step, More, Done, Loop}
 use Rattle.exact.specs.Reading.{Reader, Outcome, Got, Stop, and_then, onward, refuse, has, inside, loop_from}
-use Rattle.exact.proofs.Heads.{Begins, Avoids, Covers, BeginsIn, never, begins_long, begins_then, begins_either, begins_or, begins_in, begins_one, begins_one_within, avoids_begins, avoids_begun, avoids_none, avoids_empty, avoids_either, avoids_then, avoids_chain}
+use Rattle.exact.proofs.Heads.{Begins, Avoids, Covers, never, begins_long, begins_then, begins_either, begins_or, begins_in, begins_one_within, avoids_begins, avoids_none, avoids_empty, avoids_either, avoids_then, avoids_chain}
 use Rattle.exact.proofs.Exact.{Inhabited}
 use Rattle.exact.proofs.Single.{has_some}
 use Rattle.exact.proofs.Laws.{Mode, lowered, HasText, IsExactAt, exact_pure, exact_one, exact_one_within, exact_then, exact_map, exact_lead, exact_choose, exact_chain, exact_items, exact_weaken, exact_loop_with}

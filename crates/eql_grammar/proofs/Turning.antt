@@ -1,7 +1,7 @@
 -- Languages one behind the other, taken apart and put together again; and a loop as its first step and the rest.
-use Rattle.std.proofs.Common.{◌≡◌, ℕ, zero, suc, ◌+◌, ◌-◌, ◌≤◌, ◌<◌, Bool, List, [], ◌∷◌, ◌++◌, length, Option, Some, refl, sym, ap, subst, ◌∙◌, append_assoc, arith, inl, inr, ◌⊎◌}
+use Rattle.std.proofs.Common.{◌≡◌, ℕ, zero, suc, ◌+◌, ◌-◌, Bool, List, [], ◌∷◌, ◌++◌, length, Option, Some, refl, sym, ap, subst, ◌∙◌, append_assoc, arith}
 use Rattle.std.proofs.lemmas.List.{length-append}
-use Rattle.exact.specs.Language.{Lang, Empty, One, OneWithin, Then, Either, Step, More, Done, Onward, Turns, Loop}
+use Rattle.exact.specs.Language.{Lang, Empty, OneWithin, Then, Step, More, Done, Onward, Turns, Loop}
 use Rattle.exact.proofs.Heads.{Begins, BeginsIn, begins_then}
 use Rattle.exact.proofs.Exact.{Inhabited}
 

@@ -1,5 +1,5 @@
 -- The grammar: which tokens spell which tree, with at most so many parts open at once, and nothing behind what is too high.
-use Rattle.std.specs.Prelude.{ℕ, zero, suc, Bool, true, false, ◌==◌, ◌||◌, [], Option, Some, None}
+use Rattle.std.specs.Prelude.{ℕ, zero, suc, Bool, true, false, ◌==◌, ◌||◌, Some, None}
 use Rattle.ev_lex.specs.declared.token.Token.{Token}
 use Rattle.ev_lex.specs.declared.token.Sign.TheVariants as sign
 use Rattle.ev_lex.specs.declared.keyword.Keyword.TheVariants as keyword
@@ -20,7 +20,6 @@ use Rattle.eql_grammar.specs.declared.grown.GrownKey.{GrownKey}
 use Rattle.eql_grammar.specs.declared.grown.GrownClauses.{GrownClauses}
 use Rattle.eql_grammar.specs.declared.grown.GrownAlias.{GrownAlias}
 use Rattle.eql_grammar.specs.declared.grown.With.{With}
-use Rattle.eql_grammar.specs.declared.grown.Head.{Head}
 use Rattle.eql_grammar.specs.declared.grown.Heads.{Heads}
 use Rattle.eql_grammar.specs.declared.grown.Opening.{Opening}
 use Rattle.eql_grammar.specs.declared.grown.Opening.TheVariants as opening

@@ -1,5 +1,5 @@
 -- What is built of what was read, where it stands in the text, and how high it is.
-use Rattle.std.specs.Prelude.{ℕ, suc, Bool, true, false, max, ltb, List, [], ◌∷◌, ◌++◌, Option, Some, None, if◌then◌else◌}
+use Rattle.std.specs.Prelude.{ℕ, suc, Bool, false, max, ltb, List, [], ◌∷◌, ◌++◌, Option, Some, None, if◌then◌else◌}
 use Rattle.ast.specs.Expression.{joined, span_of, binary, postfix, shaped, if_else}
 use Rattle.ast.specs.declared.name.Span.{Span}
 use Rattle.ast.specs.declared.name.Name.{Name}
@@ -10,7 +10,6 @@ use Rattle.ast.specs.declared.expression.Postfix.{Postfix}
 use Rattle.ast.specs.declared.expression.Step.TheVariants as step
 use Rattle.ast.specs.declared.shape.Element as element
 use Rattle.ast.specs.declared.shape.Qualifiers.{Qualifiers}
-use Rattle.ast.specs.declared.statement.Alias.{Alias}
 use Rattle.ast.specs.declared.statement.Statement as statement
 use Rattle.ast.specs.declared.statement.ForBody.{ForBody}
 use Rattle.ast.specs.declared.statement.ForBody as for_body

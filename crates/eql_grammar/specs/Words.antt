@@ -1,5 +1,5 @@
 -- What single tokens stand for.
-use Rattle.std.specs.Prelude.{◌≡◌, ℕ, ◌==◌, ◌||◌, Bool, true, false, List, [], Option, Some, None, if◌then◌else◌}
+use Rattle.std.specs.Prelude.{ℕ, ◌==◌, ◌||◌, Bool, true, false, List, [], Option, Some, None, if◌then◌else◌}
 use denote.Enum.Bare.{sameb}
 use Rattle.ev_lex.specs.contracts.token.Sign.{the_type as sign_type}
 use Rattle.ev_lex.specs.contracts.keyword.Keyword.{the_type as keyword_type}
@@ -17,7 +17,6 @@ use Rattle.ast.specs.declared.expression.Expr.{Expr}
 use Rattle.ast.specs.declared.expression.Expr as e
 use Rattle.ast.specs.declared.operator.BinaryOperator.{BinaryOperator}
 use Rattle.ast.specs.declared.operator.BinaryOperator.TheVariants as op
-use Rattle.ast.specs.declared.operator.UnaryOperator.{UnaryOperator}
 use Rattle.ast.specs.declared.operator.UnaryOperator.TheVariants as unary
 use Rattle.ast.specs.declared.shape.Need.{Need}
 use Rattle.ast.specs.declared.shape.Need.TheVariants as need
@@ -27,6 +26,7 @@ use Rattle.ast.specs.declared.statement.EmptyPlace.{EmptyPlace}
 use Rattle.ast.specs.declared.statement.EmptyPlace.TheVariants as empty
 use Rattle.eql_grammar.specs.declared.class.Class.{Class}
 use Rattle.eql_grammar.specs.declared.class.Class.TheVariants.{Sign as ASign, Reserved, Named, Number, Literal}
+use Rattle.eql_grammar.specs.declared.grown.Leveled.{Leveled}
 use Rattle.eql_grammar.specs.declared.grown.Infix.{Infix}
 use Rattle.eql_grammar.specs.declared.grown.Prefix.{Prefix}
 use Rattle.eql_grammar.specs.declared.grown.Qualified.{Qualified}
@@ -141,11 +141,6 @@ abbrev pub literal_of : Token → Option Expr
 literal_of t = number_or_text (class_of t) t.kind (span t) (either_word keyword.True (e.Bool (span t) true) keyword.False (e.Bool (span t) false) t)
 
 -- ---- operators
-
--- An operator between two operands, and its level: the loosest is of level 1.
-pub record Leveled : Type 0 where
-  pub level : ℕ
-  pub operator : BinaryOperator
 
 abbrev pub at_level : ℕ → BinaryOperator → Option Leveled
 at_level level operator = Some (record { level = level; operator = operator })

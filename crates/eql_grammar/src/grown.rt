@@ -132,6 +132,13 @@ pub struct Asked {
     pub end: Option<u32>,
 }
 
+/// An operator between two operands, and its level: the loosest is of level 1.
+#[derive(Clone, Copy, Debug, PartialEq, Eq)]
+pub struct Leveled {
+    pub level: usize,
+    pub operator: BinaryOperator,
+}
+
 /// An operator between two operands, and its bytes.
 #[derive(Clone, Copy, Debug, PartialEq, Eq)]
 pub struct Infix {

@@ -10,7 +10,7 @@ mod limits;
 pub use class::Class;
 pub use grown::{
     Asked, Body, Bunch, Direction, Elements, Frame, GrownAlias, GrownClauses, GrownElement,
-    GrownExpr, GrownKey, GrownShape, GrownStatement, Head, Heads, Infix, Nest, Opening, Placement,
-    Prefix, Qualified, With,
+    GrownExpr, GrownKey, GrownShape, GrownStatement, Head, Heads, Infix, Leveled, Nest, Opening,
+    Placement, Prefix, Qualified, With,
 };
 pub use limits::{MAX_HEIGHT, MAX_OPEN};
