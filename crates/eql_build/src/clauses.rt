@@ -25,11 +25,7 @@ pub fn no_clauses(alloc: Global, end: u32, height: usize) -> GrownClauses
 }
 
 /// The clauses with a filter.
-pub fn filtered(
-    alloc: Global,
-    c: GrownClauses,
-    x: GrownExpr,
-) -> Result<GrownClauses, AllocError>
+pub fn filtered(alloc: Global, c: GrownClauses, x: GrownExpr) -> Result<GrownClauses, AllocError>
     ensures { IfOk result (λ made. made ≡ t.filtered c x) }
 {
     let end = x.expr.span().end;
@@ -66,8 +62,7 @@ pub fn ordered(c: GrownClauses, key: GrownKey) -> Result<GrownClauses, AllocErro
         offset,
         limit,
     } = c.clauses;
-    let (order, (filter, offset, limit)) =
-        pushed_beside(order, key.key, (filter, offset, limit))?;
+    let (order, (filter, offset, limit)) = pushed_beside(order, key.key, (filter, offset, limit))?;
     Ok(GrownClauses {
         clauses: Clauses {
             filter,
@@ -81,11 +76,7 @@ pub fn ordered(c: GrownClauses, key: GrownKey) -> Result<GrownClauses, AllocErro
 }
 
 /// The clauses with an offset.
-pub fn offset_by(
-    alloc: Global,
-    c: GrownClauses,
-    x: GrownExpr,
-) -> Result<GrownClauses, AllocError>
+pub fn offset_by(alloc: Global, c: GrownClauses, x: GrownExpr) -> Result<GrownClauses, AllocError>
     ensures { IfOk result (λ made. made ≡ t.offset_by c x) }
 {
     let end = x.expr.span().end;
@@ -111,11 +102,7 @@ pub fn offset_by(
 }
 
 /// The clauses with a limit.
-pub fn limited(
-    alloc: Global,
-    c: GrownClauses,
-    x: GrownExpr,
-) -> Result<GrownClauses, AllocError>
+pub fn limited(alloc: Global, c: GrownClauses, x: GrownExpr) -> Result<GrownClauses, AllocError>
     ensures { IfOk result (λ made. made ≡ t.limited c x) }
 {
     let end = x.expr.span().end;

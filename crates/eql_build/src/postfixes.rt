@@ -48,11 +48,7 @@ pub fn is_type(bracket: Span, ty: QualifiedName, close: Span) -> Postfix
 }
 
 /// A base with a postfix behind it.
-pub fn stepped(
-    alloc: Global,
-    base: GrownExpr,
-    found: Postfix,
-) -> Result<GrownExpr, AllocError>
+pub fn stepped(alloc: Global, base: GrownExpr, found: Postfix) -> Result<GrownExpr, AllocError>
     ensures { IfOk result (λ made. made ≡ t.stepped base found) }
 {
     let height = above(base.height);

@@ -6,9 +6,7 @@ use crate::held::{boxed_beside, list_of, pushed, pushed_beside};
 use crate::holding;
 use crate::leaves::above;
 use ast::{Alias, For, ForBody, Name, Select, Span, Statement};
-use eql_grammar::{
-    Body, GrownAlias, GrownClauses, GrownExpr, GrownStatement, Head, Heads, With,
-};
+use eql_grammar::{Body, GrownAlias, GrownClauses, GrownExpr, GrownStatement, Head, Heads, With};
 use ev_value::{Boxed, List};
 use std::alloc::{AllocError, Global};
 
@@ -102,8 +100,11 @@ pub fn selected(
         end: c.end,
     };
     let height = above(before.height.max(c.height));
-    let (subject, (aliases, clauses)) =
-        boxed_beside(alloc, subject.expr, (before.aliases, c.clauses))?;
+    let (subject, (aliases, clauses)) = boxed_beside(
+        alloc,
+        subject.expr,
+        (before.aliases, c.clauses),
+    )?;
     Ok(GrownStatement {
         statement: Statement::Select(span, aliases, Select { subject, clauses }),
         span,

@@ -213,7 +213,8 @@ impl<'a> Cursor<'a> {
     {
         match self.rest {
             [] => false,
-            [next, ..] => matches!(infix_of(6, self.ahead, next), Some(_)) || is_word(Keyword::Not, self.ahead),
+            [next, ..] => matches!(infix_of(6, self.ahead, next), Some(_))
+                || is_word(Keyword::Not, self.ahead),
         }
     }
 

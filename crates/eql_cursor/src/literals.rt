@@ -45,11 +45,7 @@ pub fn name_of(alloc: Global, class: Class, token: &Token) -> Result<Option<Name
 }
 
 /// The name of a parameter that the token is.
-pub fn parameter_of(
-    alloc: Global,
-    class: Class,
-    token: &Token,
-) -> Result<Option<Name>, AllocError>
+pub fn parameter_of(alloc: Global, class: Class, token: &Token) -> Result<Option<Name>, AllocError>
     requires { class ≡ words.class_of token.now }
     ensures { IfOk result (λ found. found ≡ words.parameter_of token.now) }
 {
