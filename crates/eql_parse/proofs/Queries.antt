@@ -1,5 +1,5 @@
 -- What the readers of queries and expressions found, in the words of what is promised.
-use Rattle.std.proofs.Common.{◌≡◌, ℕ, suc, ◌+◌, ◌-◌, ◌≤◌, Bool, true, false, Option, Some, None, List, [], ◌∷◌, ◌++◌, inl, inr, ◌⊎◌, length, take, drop, refl, sym, ap, subst, ◌∙◌, arith}
+use Rattle.std.proofs.Common.{◌≡◌, ℕ, suc, ◌+◌, ◌-◌, ◌≤◌, Bool, true, false, Option, Some, None, List, [], ◌∷◌, inl, inr, length, take, drop, refl, sym, ap, subst, ◌∙◌, arith}
 use Rattle.std.proofs.lemmas.List.{length-append, length-take, length-drop, take-append-drop, drop-drop}
 use Rattle.std.proofs.Math.Dec.{leb}
 use Rattle.exact.specs.declared.rule.Rule.{Rule}
@@ -15,7 +15,7 @@ use Rattle.ev_lex.specs.declared.keyword.Keyword.TheVariants as keyword
 use Rattle.ast.specs.declared.expression.Expr.{Expr}
 use Rattle.ast.specs.declared.statement.Query.{Query}
 use Rattle.eql_grammar.specs.declared.class.Class.{Class}
-use Rattle.eql_grammar.specs.declared.class.Class.TheVariants.{Sign as ASign, Reserved, Named, Number, Literal}
+use Rattle.eql_grammar.specs.declared.class.Class.TheVariants.{Sign as ASign, Reserved, Named}
 use Rattle.eql_grammar.specs.declared.grown.Leveled.{Leveled}
 use Rattle.eql_grammar.specs.declared.grown.GrownExpr.{GrownExpr}
 use Rattle.eql_grammar.specs.declared.grown.Asked.{Asked}
@@ -28,7 +28,6 @@ use Rattle.eql_grammar.proofs.Sets.{go, binds_by, others}
 use Rattle.eql_grammar.proofs.Levels.{within_known}
 use Rattle.eql_grammar.proofs.Promise as p
 use Rattle.eql_parse.specs.Promise.{refusal, IsTallUpTo, IsExprRefused, follows, goes_on_by, goes_on}
-use Rattle.eql_parse.specs.declared.refusal.SyntaxRefusal.{SyntaxRefusal}
 
 pub same_refusal : (r q : Rule) (j k : ℕ) → refusal r j ≡ refusal q k → (r ≡ q) × (j ≡ k)
 same_refusal Unexpected Unexpected j k e = (refl, cc)

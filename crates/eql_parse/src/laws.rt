@@ -5,6 +5,7 @@ ghost use Rattle.exact.specs.declared.rule.Rule.{Rule};
 ghost use Rattle.ast.specs.declared.expression.Expr.{Expr};
 ghost use Rattle.ast.specs.declared.statement.Query.{Query};
 ghost use Rattle.ev_lex.specs.declared.token.Token.{Token};
+ghost use Rattle.ev_lex.specs.Reading.{IsCut};
 ghost use Rattle.eql_grammar.specs.Promise.{QueryText, IsQuery, IsExprUpTo};
 
 /// Each text spells at most one query.
@@ -21,4 +22,9 @@ pub fn one_refusal()
 /// At most one expression stands in front of tokens up to one with which none goes on.
 pub fn one_expression()
     ensures { (ts : List Token) (x y : Expr) (j k : ℕ) → IsExprUpTo ts x j → IsExprUpTo ts y k → (x ≡ y) × (j ≡ k) }
+{}
+
+/// A text has no more tokens than bytes.
+pub fn few_tokens()
+    ensures { (text : List ℕ) (ts : List Token) → IsCut text ts → length ts ≤ length text }
 {}

@@ -15,7 +15,9 @@ mod read;
 mod refusal;
 mod stack;
 mod statements;
+#[cfg(test)]
+mod tests;
 
-pub use laws::{one_expression, one_refusal, one_tree};
+pub use laws::{few_tokens, one_expression, one_refusal, one_tree};
 pub use parse::{parse_expr, parse_query};
 pub use refusal::SyntaxRefusal;

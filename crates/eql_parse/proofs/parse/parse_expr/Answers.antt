@@ -1,7 +1,6 @@
-use Rattle.std.proofs.Common.{◌≡◌, ℕ, ◌+◌, length, drop, ap, sym, ◌∙◌, inl, Result, Ok, Err}
+use Rattle.std.proofs.Common.{◌≡◌, ℕ, ap, sym, ◌∙◌, inl, Result, Err}
 use Rattle.exact.specs.declared.rule.Rule.{Rule}
 use Rattle.exact.specs.declared.rule.Rule.TheVariants.{TooDeep}
-use Rattle.exact.specs.Reading.{Got, Stop}
 use Rattle.ast.specs.declared.expression.Expr.{Expr}
 use Rattle.eql_grammar.proofs.Promise.{expr}
 use Rattle.eql_parse.specs.Promise.{refusal}

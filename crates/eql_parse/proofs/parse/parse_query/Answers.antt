@@ -1,9 +1,8 @@
-use Rattle.std.proofs.Common.{◌≡◌, ℕ, ◌+◌, length, ap, subst, sym, ◌∙◌, inl}
+use Rattle.std.proofs.Common.{◌≡◌, ℕ, ap, subst, sym, ◌∙◌, inl}
 use Rattle.exact.specs.declared.rule.Rule.{Rule}
 use Rattle.exact.specs.Reading.{Got, Stop}
 use Rattle.exact.specs.Promise.{IsRefused}
 use Rattle.ast.specs.declared.statement.Query.{Query}
-use Rattle.ev_lex.specs.declared.token.Token.{Token}
 use Rattle.eql_grammar.specs.Promise.{QueryText, IsQuery}
 use Rattle.eql_grammar.proofs.Promise.{all, query, left_over, refused, one_refusal}
 use Rattle.eql_parse.specs.Promise.{refusal}
