@@ -1,2 +1,2 @@
-pub mod Expr
-pub mod Meaning
+pub mod Path
+pub mod Occurrences

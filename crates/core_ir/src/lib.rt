@@ -1,8 +1,17 @@
-//! The tree that a query is compiled as, and what it means.
+//! The tree of a query whose names are known, which every later phase shares.
 #![tactic(auto)]
 
-mod build;
-mod expr;
+mod card;
+mod path;
+mod phase;
+mod tree;
+mod ty;
 
-pub use build::{add, literal, set};
-pub use expr::Expr;
+pub use card::Card;
+pub use path::{Path, PtrId, Root, Step, TypeId};
+pub use phase::{Carded, Core, Guarded, Typed};
+pub use tree::{
+    Alias, Conditional, Element, EmptyPlace, Expr, Key, Need, Occurrence, Order, Param, Scope, Select,
+    SetFunction, Width,
+};
+pub use ty::Ty;

@@ -3,8 +3,8 @@ use Rattle.std.proofs.Common.{◌≡◌, ◌≢◌, ℕ, ◌+◌, ◌≤◌, ◌
 use Rattle.std.proofs.lemmas.List.{take_min, length-take}
 use Rattle.std.proofs.Math.Seq.{take-length}
 use Rattle.std.proofs.lemmas.Bool.{le-ltb, lt-ltb, ltb-false, ltb-true}
-use Rattle.core_ir.specs.Meaning.{items}
-use Rattle.core_ir.specs.declared.expr.Expr.{Expr}
+use Rattle.const_ir.specs.Meaning.{items}
+use Rattle.const_ir.specs.declared.expr.Expr.{Expr}
 use Rattle.ev_io.specs.Shelf.{ShelfView, ReadFails, ReadGives}
 use Rattle.ev_value.specs.Item.{has_fault, faults, values}
 use Rattle.ev_value.specs.declared.item.Fault.{Fault}

@@ -1,8 +1,8 @@
 -- What is read is spelled so, and what is spelled so is read.
 use Rattle.std.proofs.Common.{◌≡◌, ◌≤◌, ◌<◌, ℕ, zero, suc, ◌+◌, ◌-◌, Bool, true, false, if◌then◌else◌, List, [], ◌∷◌, ◌++◌, map, length, Option, Some, None, refl, sym, ap, ◌∙◌, subst, arith, append_assoc, append-nil, rules}
 use Rattle.std.proofs.lemmas.List.{map-append, length-append}
-use Rattle.core_ir.specs.Expr.{add, set}
-use Rattle.core_ir.specs.declared.expr.Expr.{Expr}
+use Rattle.const_ir.specs.Expr.{add, set}
+use Rattle.const_ir.specs.declared.expr.Expr.{Expr}
 use Rattle.edge_run.specs.Query.{Rest, Blank, Sign, Number, Select, Commas, Term, Single, Braces, TermText, PlusTerms, number_of, term_of, grouped, most_terms, IsQuery}
 use Rattle.edge_run.specs.Cursor.{Reading, Got, Lost, followed, sees, sign, end, number, select}
 use Rattle.edge_run.specs.Reader.{one_number, commas, elements, braces, term, at_end, terms, whole, tree_of, read_query}

@@ -1,7 +1,7 @@
 -- One turn of a loop that reads.
 use Rattle.std.proofs.Common.{◌≡◌, ℕ, suc, ◌+◌, ◌-◌, ◌<◌, List, [], ◌∷◌, ◌++◌, true, refl, sym, ap, ◌∙◌, arith}
-use Rattle.core_ir.specs.Expr.{add}
-use Rattle.core_ir.specs.declared.expr.Expr.{Expr}
+use Rattle.const_ir.specs.Expr.{add}
+use Rattle.const_ir.specs.declared.expr.Expr.{Expr}
 use Rattle.edge_run.specs.Cursor.{Reading, Got, followed, sees, sign}
 use Rattle.edge_run.specs.Reader.{one_number, commas, term, terms}
 

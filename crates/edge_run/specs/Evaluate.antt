@@ -1,7 +1,7 @@
 -- The sums of two lists of items.
 use Rattle.std.specs.Prelude.{List, [], ◌∷◌}
 use Rattle.ev_value.specs.Item.{bind}
-use Rattle.core_ir.specs.Meaning.{sum_item}
+use Rattle.const_ir.specs.Meaning.{sum_item}
 use Rattle.ev_value.specs.declared.item.Item.{Item}
 use Rattle.ev_value.specs.declared.value.Val.{Val}
 

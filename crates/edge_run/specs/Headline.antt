@@ -1,7 +1,7 @@
 -- The headline, in its own words: what a run says of the query that its words name.
 use Rattle.std.specs.Prelude.{◌≡◌, ◌≢◌, ℕ, ◌≤◌, List, [], ◌∷◌, length, Option, None, Some, ◌⊎◌, codes, Contains}
-use Rattle.core_ir.specs.Meaning.{items}
-use Rattle.core_ir.specs.declared.expr.Expr.{Expr}
+use Rattle.const_ir.specs.Meaning.{items}
+use Rattle.const_ir.specs.declared.expr.Expr.{Expr}
 use Rattle.ev_io.specs.Count.{Rose}
 use Rattle.ev_io.specs.Shelf.{ShelfView, ReadFails}
 use Rattle.ev_io.specs.Sink.{SinkView, PutTakes, PutFails}

@@ -1,8 +1,8 @@
 -- What each mode reads and decides.
 use Rattle.std.specs.Prelude.{◌≡◌, ℕ, ◌+◌, nat_lt, if◌then◌else◌, List, [], ◌∷◌, ◌++◌, length, Result, Ok, Err, Option, Some, None, codes}
 use Rattle.std.specs.Str.{bytes_eq}
-use Rattle.core_ir.specs.Meaning.{items}
-use Rattle.core_ir.specs.declared.expr.Expr.{Expr}
+use Rattle.const_ir.specs.Meaning.{items}
+use Rattle.const_ir.specs.declared.expr.Expr.{Expr}
 use Rattle.ev_value.specs.Item.{has_fault, faults, values}
 use Rattle.ev_value.specs.JsonText.{json_text}
 use Rattle.ev_value.specs.Nested.{answer_form}

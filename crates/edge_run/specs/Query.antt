@@ -3,8 +3,8 @@ use Rattle.std.specs.Prelude.{◌≡◌, ◌≢◌, ℕ, ◌+◌, ◌-◌, ◌*�
 use Rattle.std.specs.List.{list_all}
 use Rattle.std.specs.Char.{is_ascii_digit, is_ascii_alphanumeric, to_ascii_lowercase}
 use Rattle.ev_value.specs.declared.value.Val.{Int}
-use Rattle.core_ir.specs.Expr.{literal, add, set}
-use Rattle.core_ir.specs.declared.expr.Expr.{Expr}
+use Rattle.const_ir.specs.Expr.{literal, add, set}
+use Rattle.const_ir.specs.declared.expr.Expr.{Expr}
 
 -- space, tab, line feed or carriage return
 abbrev pub is_space : ℕ → Bool

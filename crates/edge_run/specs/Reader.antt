@@ -1,7 +1,7 @@
 -- The reading of a built query.
 use Rattle.std.specs.Prelude.{◌≡◌, ℕ, zero, suc, ◌+◌, ◌-◌, if◌then◌else◌, List, [], ◌∷◌, ◌++◌, length, nat_lt, Result, Ok, Err, Option, Some, None}
-use Rattle.core_ir.specs.Expr.{add, set}
-use Rattle.core_ir.specs.declared.expr.Expr.{Expr}
+use Rattle.const_ir.specs.Expr.{add, set}
+use Rattle.const_ir.specs.declared.expr.Expr.{Expr}
 use Rattle.edge_run.specs.Cursor.{Reading, Got, Lost, followed, sees, sign, end, number, select}
 use Rattle.edge_run.specs.declared.cursor.ReadError.{ReadError}
 use Rattle.edge_run.specs.declared.cursor.ReadError.TheVariants as read_error

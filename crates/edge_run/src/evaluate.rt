@@ -1,10 +1,10 @@
 //! The items of an expression, worked out as its meaning says.
 ghost use Rattle.std.specs.Prelude.{◌≡◌, ◌∷◌, [], ◌++◌, IfOk, OnOk};
-ghost use Rattle.core_ir.specs.Meaning.{sum_item, items, items_of_all};
+ghost use Rattle.const_ir.specs.Meaning.{sum_item, items, items_of_all};
 ghost use Rattle.edge_run.specs.Evaluate.{sums, sums_with};
 ghost use Rattle.ev_value.specs.Item.{one as one_of};
 
-use core_ir::Expr;
+use const_ir::Expr;
 use ev_value::{Item, List, Op, OpError, Val, apply_op};
 use std::alloc::{AllocError, Global};
 
@@ -64,7 +64,7 @@ fn add_all(alloc: Global, left: &[Item], right: &[Item]) -> Result<List<Item>, A
 
 /// The items of the expression, in the order of its meaning.
 #[cycle(evaluate)]
-#[tactic(auto, using(core_ir::proofs::MeaningLaws::items_literal, core_ir::proofs::MeaningLaws::items_add, core_ir::proofs::MeaningLaws::items_set))]
+#[tactic(auto, using(const_ir::proofs::MeaningLaws::items_literal, const_ir::proofs::MeaningLaws::items_add, const_ir::proofs::MeaningLaws::items_set))]
 pub fn evaluate(alloc: Global, expr: &Expr) -> Result<List<Item>, AllocError>
     ensures { IfOk result (λ xs. xs ≡ items expr.now) }
 {

@@ -3,7 +3,7 @@ ghost use Rattle.std.specs.Prelude.{◌≡◌, IfOk, MatchResult};
 ghost use Rattle.ev_io.specs.Shelf.{ShelfView};
 ghost use Rattle.ev_value.specs.Item.{faults, values};
 ghost use Rattle.ev_value.specs.Nested.{answer_form as answer_form_of};
-ghost use Rattle.core_ir.specs.Meaning.{items};
+ghost use Rattle.const_ir.specs.Meaning.{items};
 ghost use Rattle.edge_run.specs.Plan.{Goes, IsRuled};
 ghost use Rattle.edge_run.specs.Modes.{query_document, query_rule, query_plan, answered, answer_text as answer_text_of, IsFirst, const_plan, mode_plan, plan_of};
 
@@ -11,7 +11,7 @@ use crate::cursor::ReadError;
 use crate::evaluate::evaluate;
 use crate::outcome::{Doc, Outcome, QueryRefusal, UsageRule};
 use crate::reader::read_query;
-use core_ir::Expr;
+use const_ir::Expr;
 use ev_io::{Shelf, ShelfError};
 use ev_value::{Bytes, Fault, Item, List, Nested, Text, Val};
 use shape_decode::text;

@@ -1,13 +1,13 @@
 //! Reads the text of a built query: `select`, then a sum of numbers and of braces with numbers.
 ghost use Rattle.std.specs.Prelude.{◌≡◌, ◌≤◌, ◌∷◌, [], length, List, ℕ, ◌↔◌, Some};
-ghost use Rattle.core_ir.specs.declared.expr.Expr.{Expr};
+ghost use Rattle.const_ir.specs.declared.expr.Expr.{Expr};
 ghost use Rattle.edge_run.specs.Cursor.{Reads};
 ghost use Rattle.edge_run.specs.Query.{number_of, most_int, IsQuery};
 ghost use Rattle.edge_run.specs.Reader as spec;
 ghost use Rattle.edge_run.specs.Reader.{IsRead};
 
 use crate::cursor::{Cursor, ReadError};
-use core_ir::{Expr, add, literal, set};
+use const_ir::{Expr, add, literal, set};
 use ev_value::{List, Val};
 use std::alloc::Global;
 

@@ -1,5 +1,5 @@
 use Rattle.std.proofs.Common.{◌≡◌, ◌++◌, drop}
-use Rattle.core_ir.specs.Meaning.{items_of_all}
+use Rattle.const_ir.specs.Meaning.{items_of_all}
 use Rattle.edge_run.proofs.evaluate.+evaluate.Given as goal
 
 abbrev pub invariant-evaluate_all-loop-expr : goal.invariant-evaluate_all-loop-expr

@@ -3,10 +3,10 @@ use Rattle.std.proofs.Common.{◌≡◌, List, [], ◌∷◌, ◌++◌, refl, ap
 use Rattle.ev_value.specs.Item.{bind, one}
 use Rattle.ev_value.specs.declared.item.Item.{Item}
 use Rattle.ev_value.specs.declared.value.Val.{Val}
-use Rattle.core_ir.specs.Meaning.{sum_item, items, items_of_row, items_of_all}
-use Rattle.core_ir.specs.declared.expr.Expr.{Expr}
-use Rattle.core_ir.specs.declared.expr.Expr.TheVariants as expr
-use Rattle.core_ir.specs.declared.expr.Expr.TheBlock as block
+use Rattle.const_ir.specs.Meaning.{sum_item, items, items_of_row, items_of_all}
+use Rattle.const_ir.specs.declared.expr.Expr.{Expr}
+use Rattle.const_ir.specs.declared.expr.Expr.TheVariants as expr
+use Rattle.const_ir.specs.declared.expr.Expr.TheBlock as block
 use denote.Hole.Carrier as carrier
 
 pub items_literal : (v : Val) → items (expr.Literal v) ≡ one v

@@ -1,8 +1,8 @@
 -- Expressions as cases see them.
 use Rattle.std.specs.Prelude.{List}
 use Rattle.ev_value.specs.declared.value.Val.{Val}
-use Rattle.core_ir.specs.declared.expr.Expr.{Expr, Literal, Add', end_of-Expr, more_of-Expr}
-use Rattle.core_ir.specs.declared.expr.Expr.TheVariants as expr
+use Rattle.const_ir.specs.declared.expr.Expr.{Expr, Literal, Add', end_of-Expr, more_of-Expr}
+use Rattle.const_ir.specs.declared.expr.Expr.TheVariants as expr
 
 abbrev pub literal : Val → Expr
 literal v = Literal v

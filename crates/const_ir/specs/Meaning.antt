@@ -5,7 +5,7 @@ use Rattle.ev_value.specs.Operator.{item_of_op}
 use Rattle.ev_value.specs.declared.operator.Op.TheVariants as op
 use Rattle.ev_value.specs.declared.item.Item.{Item}
 use Rattle.ev_value.specs.declared.value.Val.{Val}
-use Rattle.core_ir.specs.declared.expr.Expr.{Expr, Literal, Add', Set', Row_of-Expr, end_of-Expr, more_of-Expr}
+use Rattle.const_ir.specs.declared.expr.Expr.{Expr, Literal, Add', Set', Row_of-Expr, end_of-Expr, more_of-Expr}
 
 -- the sum of two values, or the fault that stands in its place
 abbrev pub sum_item : Val → Val → Item Val

@@ -1,6 +1,6 @@
 //! One builder a form.
 ghost use Rattle.std.specs.Prelude.{◌≡◌, IfOk};
-ghost use Rattle.core_ir.specs.Expr.{literal as literal_of, add as add_of, set as set_of};
+ghost use Rattle.const_ir.specs.Expr.{literal as literal_of, add as add_of, set as set_of};
 
 use crate::expr::Expr;
 use ev_value::{Boxed, List, Val};

@@ -1,10 +1,10 @@
 -- The forms as the code makes them are the forms as cases see them.
 use Rattle.std.proofs.Common.{◌≡◌, List, [], ◌∷◌, ◌++◌, refl, ap}
-use Rattle.core_ir.specs.Expr.{add, set}
-use Rattle.core_ir.specs.Meaning.{items, items_of_all}
-use Rattle.core_ir.specs.declared.expr.Expr.{Expr}
-use Rattle.core_ir.specs.declared.expr.Expr.TheVariants as expr
-use Rattle.core_ir.specs.declared.expr.Expr.TheBlock as block
+use Rattle.const_ir.specs.Expr.{add, set}
+use Rattle.const_ir.specs.Meaning.{items, items_of_all}
+use Rattle.const_ir.specs.declared.expr.Expr.{Expr}
+use Rattle.const_ir.specs.declared.expr.Expr.TheVariants as expr
+use Rattle.const_ir.specs.declared.expr.Expr.TheBlock as block
 use denote.Hole.Carrier as carrier
 
 pub add_is : (a b : Expr) → expr.Add a b ≡ add a b

@@ -1,0 +1,177 @@
+//! The tree: one form for each way to write an expression.
+//!
+//! Each node carries the first byte of its text. A part whose paths are bound for themselves is a `Scope`. What a
+//! later phase finds out stands in a slot, empty until then.
+
+use crate::card::Card;
+use crate::path::Path;
+use crate::ty::Ty;
+use ev_value::{Boxed, List, Op, ScalarTy, Text, Val};
+
+/// A part of the text whose paths are bound for themselves: an argument that is a set, a condition, a key, an element,
+/// a branch, a definition, a base.
+#[derive(Drop)]
+#[cycle(core)]
+pub struct Scope {
+    /// The first byte.
+    pub start: u32,
+    pub body: Boxed<Expr>,
+}
+
+/// A path where it stands in the text.
+#[derive(Drop)]
+pub struct Occurrence {
+    /// The root's name as written, without a module; `_` for a subject or a base.
+    pub name: Text,
+    pub path: Path,
+    /// The first bytes of the steps that stand at this place, which are the last ones of the path.
+    pub places: List<u32>,
+}
+
+/// A parameter of the query.
+#[derive(Drop)]
+pub struct Param {
+    pub name: Text,
+    pub ty: ScalarTy,
+    pub optional: bool,
+}
+
+/// An expression.
+#[derive(Drop)]
+#[cycle(core)]
+pub enum Expr {
+    Literal(u32, Val),
+    Param(u32, Param),
+    /// `global name`
+    Global(u32, Text),
+    Path(u32, Occurrence),
+    /// A path from an expression that is none: `(select User).name`.
+    OnBase(u32, Scope, Occurrence),
+    /// An operator or a plain function of its operands, in the order of the text.
+    Operation(u32, Op, List<Expr>),
+    /// The prefix `+`.
+    Plus(u32, Boxed<Expr>),
+    Cast(u32, ScalarTy, Boxed<Expr>),
+    Tuple(u32, List<Expr>),
+    /// `?=`, or `?!=` where it is negated.
+    OptionalEqual(u32, bool, Boxed<Expr>, Boxed<Expr>),
+    /// `in`, or `not in` where it is negated.
+    In(u32, bool, Boxed<Expr>, Scope),
+    /// A function of a whole set.
+    OfSet(u32, SetFunction, Scope),
+    /// `first union second`
+    Union(u32, Scope, Scope),
+    /// `{first, second, ..}`
+    Set(u32, List<Scope>),
+    /// `first ?? second`
+    Coalesce(u32, Boxed<Expr>, Scope),
+    If(u32, Conditional),
+    /// An expression with a shape, whose subject has this number.
+    Shaped(u32, Boxed<Expr>, u32, List<Element>),
+    /// A `select` and the aliases before it.
+    Select(u32, List<Alias>, Select),
+    /// `for variable in iterator union body`, and the aliases before it.
+    For(u32, List<Alias>, u32, Scope, Scope),
+}
+
+/// A function whose argument is a whole set.
+#[derive(Clone, Copy, Debug, PartialEq, Eq)]
+pub enum SetFunction {
+    Count,
+    Sum,
+    Min,
+    Max,
+    Any,
+    All,
+    Exists,
+    Distinct,
+    AssertSingle,
+    AssertExists,
+    AssertDistinct,
+}
+
+/// A choice between two branches.
+#[derive(Drop)]
+#[cycle(core)]
+pub struct Conditional {
+    pub order: Order,
+    pub condition: Boxed<Expr>,
+    pub value: Scope,
+    pub other: Scope,
+}
+
+/// The order in which the parts of a choice stand in the text.
+#[derive(Clone, Copy, Debug, PartialEq, Eq)]
+pub enum Order {
+    /// `value if condition else other`
+    ValueFirst,
+    /// `if condition then value else other`
+    ConditionFirst,
+}
+
+/// `name := value` before a statement.
+#[derive(Drop)]
+#[cycle(core)]
+pub struct Alias {
+    pub number: u32,
+    pub value: Scope,
+}
+
+/// A subject and the clauses of its statement.
+#[derive(Drop)]
+#[cycle(core)]
+pub struct Select {
+    pub subject: Boxed<Expr>,
+    /// The number of the subject's root.
+    pub number: u32,
+    pub filter: Option<Boxed<Scope>>,
+    pub keys: List<Key>,
+    pub offset: Option<Boxed<Scope>>,
+    pub limit: Option<Boxed<Scope>>,
+}
+
+/// A key of an order, with where it puts what is empty.
+#[derive(Drop)]
+#[cycle(core)]
+pub enum Key {
+    Ascending(EmptyPlace, Scope),
+    Descending(EmptyPlace, Scope),
+}
+
+/// Where an order puts what has no key.
+#[derive(Clone, Copy, Debug, PartialEq, Eq)]
+pub enum EmptyPlace {
+    First,
+    Last,
+}
+
+/// An element of a shape.
+#[derive(Drop)]
+#[cycle(core)]
+pub struct Element {
+    /// The first byte, of a word before the name if one stands there.
+    pub start: u32,
+    /// The key in the answer; of a link property it begins with `@`.
+    pub name: Text,
+    pub need: Option<Need>,
+    pub width: Option<Width>,
+    /// The slot of the phase of types.
+    pub ty: Option<Ty>,
+    /// The slot of the phase of cardinalities.
+    pub card: Option<Card>,
+    pub value: Scope,
+}
+
+/// `required` or `optional`.
+#[derive(Clone, Copy, Debug, PartialEq, Eq)]
+pub enum Need {
+    Required,
+    Optional,
+}
+
+/// `single` or `multi`.
+#[derive(Clone, Copy, Debug, PartialEq, Eq)]
+pub enum Width {
+    Single,
+    Multi,
+}
