@@ -8,10 +8,11 @@ mod tree;
 mod ty;
 
 pub use card::Card;
+pub use ev_list::{Absent, Param};
 pub use path::{Path, PtrId, Root, Step, TypeId};
 pub use phase::{Carded, Core, Guarded, Typed};
 pub use tree::{
-    Alias, Conditional, Element, EmptyPlace, Expr, Key, Need, Occurrence, Order, Param, Scope, Select,
-    SetFunction, Width,
+    Alias, Conditional, Element, Expr, Key, Need, Occurrence, Order, Scope, Select, SetFunction,
+    Width,
 };
 pub use ty::Ty;

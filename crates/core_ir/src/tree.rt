@@ -6,6 +6,7 @@
 use crate::card::Card;
 use crate::path::Path;
 use crate::ty::Ty;
+use ev_list::{Absent, Param};
 use ev_value::{Boxed, List, Op, ScalarTy, Text, Val};
 
 /// A part of the text whose paths are bound for themselves: an argument that is a set, a condition, a key, an element,
@@ -26,14 +27,6 @@ pub struct Occurrence {
     pub path: Path,
     /// The first bytes of the steps that stand at this place, which are the last ones of the path.
     pub places: List<u32>,
-}
-
-/// A parameter of the query.
-#[derive(Drop)]
-pub struct Param {
-    pub name: Text,
-    pub ty: ScalarTy,
-    pub optional: bool,
 }
 
 /// An expression.
@@ -134,15 +127,8 @@ pub struct Select {
 #[derive(Drop)]
 #[cycle(core)]
 pub enum Key {
-    Ascending(EmptyPlace, Scope),
-    Descending(EmptyPlace, Scope),
-}
-
-/// Where an order puts what has no key.
-#[derive(Clone, Copy, Debug, PartialEq, Eq)]
-pub enum EmptyPlace {
-    First,
-    Last,
+    Ascending(Absent, Scope),
+    Descending(Absent, Scope),
 }
 
 /// An element of a shape.
