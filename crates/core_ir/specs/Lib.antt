@@ -1,2 +1,5 @@
 pub mod Path
 pub mod Occurrences
+pub mod Card
+pub mod Layout
+pub mod ScopedPaths

@@ -1,16 +1,12 @@
 -- Which paths occur in an expression, and which of them are bound where it stands.
 use Rattle.std.specs.Prelude.{ℕ, ◌+◌, Bool, true, false, List, [], ◌∷◌, ◌++◌}
+use Rattle.core_ir.specs.declared.tree.Direct.{Direct}
 use Rattle.core_ir.specs.declared.tree.Occurrence.{Occurrence}
 use Rattle.core_ir.specs.declared.tree.Order.TheVariants as order
 use Rattle.core_ir.specs.declared.tree.Expr.{Expr, Row_of-Expr, end_of-Expr, more_of-Expr, Row_of-Scope, end_of-Scope, more_of-Scope, Row_of-Alias, end_of-Alias, more_of-Alias, Row_of-Element, end_of-Element, more_of-Element}
 use Rattle.core_ir.specs.declared.tree.Expr as e
 use Rattle.core_ir.specs.declared.tree.Select.{Select', Held-Select-filter, None', Some', Row_of-Key, end_of-Key, more_of-Key}
 use Rattle.core_ir.specs.declared.tree.Key as key
-
--- An occurrence and whether it stands in an optional argument of its scope.
-pub record Direct : Type 0 where
-  pub occurrence : Occurrence
-  pub optional : Bool
 
 -- The occurrences that no inner scope contains.
 abbrev mutual

@@ -2,6 +2,8 @@
 #![tactic(auto)]
 
 mod card;
+mod layout;
+mod occurrences;
 mod path;
 mod phase;
 mod tree;
@@ -9,10 +11,12 @@ mod ty;
 
 pub use card::Card;
 pub use ev_list::{Absent, Param};
+pub use layout::{Layout, LayoutField};
+pub use occurrences::ScopedPath;
 pub use path::{Path, PtrId, Root, Step, TypeId};
 pub use phase::{Carded, Core, Guarded, Typed};
 pub use tree::{
-    Alias, Conditional, Element, Expr, Key, Need, Occurrence, Order, Scope, Select, SetFunction,
+    Alias, Conditional, Direct, Element, Expr, Key, Need, Occurrence, Order, Scope, Select, SetFunction,
     Width,
 };
 pub use ty::Ty;

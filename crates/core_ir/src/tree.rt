@@ -29,6 +29,14 @@ pub struct Occurrence {
     pub places: List<u32>,
 }
 
+/// A path of a scope that no inner scope contains.
+#[derive(Drop)]
+pub struct Direct {
+    pub occurrence: Occurrence,
+    /// Whether it stands in an argument of `??`, `?=` or `?!=` that may be empty.
+    pub optional: bool,
+}
+
 /// An expression.
 #[derive(Drop)]
 #[cycle(core)]

@@ -15,7 +15,8 @@ use Rattle.core_ir.specs.declared.tree.Expr.{Expr, Row_of-Expr, end_of-Expr, mor
 use Rattle.core_ir.specs.declared.tree.Expr as e
 use Rattle.core_ir.specs.declared.tree.Select.{Select', Held-Select-filter, None', Some', Row_of-Key, end_of-Key, more_of-Key}
 use Rattle.core_ir.specs.declared.tree.Key as key
-use Rattle.core_ir.specs.Occurrences.{Direct, direct, all, all_of_clause, all_of_keys}
+use Rattle.core_ir.specs.declared.tree.Direct.{Direct}
+use Rattle.core_ir.specs.Occurrences.{direct, all, all_of_clause, all_of_keys}
 use Rattle.core_ir.specs.Path.{subject, variable}
 use Rattle.path_scope.specs.declared.prefix.Prefix.{Prefix}
 use Rattle.path_scope.specs.Factored.{factored}

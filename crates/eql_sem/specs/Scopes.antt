@@ -10,7 +10,7 @@ use Rattle.core_ir.specs.declared.path.Root.TheVariants as root
 use Rattle.core_ir.specs.declared.path.Step.{Step}
 use Rattle.core_ir.specs.declared.path.Step.TheVariants as step
 use Rattle.core_ir.specs.declared.tree.Occurrence.{Occurrence}
-use Rattle.core_ir.specs.Occurrences.{Direct}
+use Rattle.core_ir.specs.declared.tree.Direct.{Direct}
 use Rattle.core_ir.specs.Path.{prefix}
 use Rattle.path_scope.specs.declared.prefix.Prefix.{Prefix}
 use Rattle.path_scope.specs.Factored.{factored}

@@ -4,7 +4,7 @@ use Rattle.std.specs.List.{list_any, list_all}
 use Rattle.core_ir.specs.declared.path.Path.{Path}
 use Rattle.core_ir.specs.declared.tree.Occurrence.{Occurrence}
 use Rattle.core_ir.specs.Path.{root_eq, path_eq, alike, prefix, begins}
-use Rattle.core_ir.specs.Occurrences.{Direct}
+use Rattle.core_ir.specs.declared.tree.Direct.{Direct}
 use Rattle.path_scope.specs.declared.prefix.Prefix.{Prefix}
 
 -- whether a path is the longest that two paths begin with, of at least their root
@@ -47,3 +47,8 @@ added found (p ∷ more) = added (if is_listed found p.path then found else foun
 -- occurrence in the text that has them, then by length.
 abbrev pub factored : List Direct → List Occurrence → List Path → List Prefix
 factored ds os bound = added [] (filter (λ p. joins ds os p.path && not (is_bound bound p.path)) (flat_map (prefixes_of ds) os))
+
+-- the paths that are bound once a scope's prefixes are, the last one newest
+abbrev pub bound_within : List Prefix → List Path → List Path
+bound_within [] bound = bound
+bound_within (f ∷ fs) bound = bound_within fs (f.path ∷ bound)

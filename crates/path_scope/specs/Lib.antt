@@ -1,1 +1,2 @@
 pub mod Factored
+pub mod Scopes

@@ -2,5 +2,7 @@
 #![tactic(auto)]
 
 mod prefix;
+mod tree;
 
 pub use prefix::Prefix;
+pub use tree::ScopeTree;
