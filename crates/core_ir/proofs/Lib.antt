@@ -1,1 +1,3 @@
 pub mod Paths
+pub mod AllLaws
+pub mod DirectLaws

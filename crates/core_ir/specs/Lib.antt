@@ -1,4 +1,5 @@
 pub mod Path
+pub mod Parts
 pub mod Occurrences
 pub mod Card
 pub mod Layout

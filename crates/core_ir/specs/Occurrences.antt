@@ -9,7 +9,7 @@ use Rattle.core_ir.specs.declared.tree.Select.{Select', Held-Select-filter, None
 use Rattle.core_ir.specs.declared.tree.Key as key
 
 -- The occurrences that no inner scope contains.
-abbrev mutual
+unfoldable mutual
   pub direct : Expr → Bool → List Direct
   direct (e.Literal _ _) optional = []
   direct (e.Param _ _) optional = []
@@ -36,7 +36,7 @@ abbrev mutual
   direct_of (more_of-Expr x rest) optional = direct x optional ++ direct_of rest optional
 
 -- All occurrences, in the order of the text; one that begins with a base expression stands behind those inside it.
-abbrev mutual
+unfoldable mutual
   pub all : Expr → List Occurrence
   all (e.Literal _ _) = []
   all (e.Param _ _) = []
