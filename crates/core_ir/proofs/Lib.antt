@@ -1,3 +1,4 @@
 pub mod Paths
 pub mod AllLaws
 pub mod DirectLaws
+pub mod ScopedLaws

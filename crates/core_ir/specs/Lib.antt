@@ -4,3 +4,4 @@ pub mod Occurrences
 pub mod Card
 pub mod Layout
 pub mod ScopedPaths
+pub mod ScopedParts
