@@ -7,7 +7,7 @@ use Rattle.ev_list.specs.declared.param.Param.{Param}
 use Rattle.ev_list.specs.declared.order.Absent.{Absent}
 use Rattle.core_ir.specs.ScopedPaths.{scopes_in, scopes_in_all, scopes_among, scopes_in_elements, scopes_in_aliases, scopes_in_clause, scopes_in_keys, scopes_in_key, paths_in, paths_in_all, paths_in_scope, paths_among, paths_in_elements, paths_in_aliases, paths_in_clause, paths_in_keys, paths_in_key}
 use Rattle.core_ir.specs.ScopedParts.{total, in_turn, paths_of, scopes_of_scope, paths_of_scope, scopes_of_alias, paths_of_alias, scopes_of_element, paths_of_element, paths_of_key, scopes_of_clause, paths_of_clause, scopes_of_choice, paths_by_order, paths_of_choice, scopes_of_rows, paths_of_rows, scopes_of_loop, paths_of_loop}
-use Rattle.core_ir.specs.declared.occurrences.ScopedPath.{ScopedPath}
+use Rattle.core_ir.specs.declared.scoped_paths.ScopedPath.{ScopedPath}
 use Rattle.core_ir.specs.declared.tree.Occurrence.{Occurrence}
 use Rattle.core_ir.specs.declared.tree.Scope.{Scope}
 use Rattle.core_ir.specs.declared.tree.SetFunction.{SetFunction}

@@ -1,6 +1,6 @@
 -- The occurrences of parts with the scopes that contain them, where the parts' first scope has a number.
 use Rattle.std.specs.Prelude.{ℕ, suc, ◌+◌, Bool, true, false, List, [], ◌∷◌, ◌++◌, Option, Some, None}
-use Rattle.core_ir.specs.declared.occurrences.ScopedPath.{ScopedPath}
+use Rattle.core_ir.specs.declared.scoped_paths.ScopedPath.{ScopedPath}
 use Rattle.core_ir.specs.declared.tree.Scope.{Scope}
 use Rattle.core_ir.specs.declared.tree.Alias.{Alias}
 use Rattle.core_ir.specs.declared.tree.Conditional.{Conditional}

@@ -1,6 +1,6 @@
 -- All occurrences of paths in a tree, each with the scopes that contain it.
 use Rattle.std.specs.Prelude.{ℕ, suc, ◌+◌, Bool, true, false, List, [], ◌∷◌, ◌++◌}
-use Rattle.core_ir.specs.declared.occurrences.ScopedPath.{ScopedPath}
+use Rattle.core_ir.specs.declared.scoped_paths.ScopedPath.{ScopedPath}
 use Rattle.core_ir.specs.declared.phase.Core.{Core}
 use Rattle.core_ir.specs.declared.tree.Order.TheVariants as order
 use Rattle.core_ir.specs.declared.tree.Expr.{Expr, Row_of-Expr, end_of-Expr, more_of-Expr, Row_of-Scope, end_of-Scope, more_of-Scope, Row_of-Alias, end_of-Alias, more_of-Alias, Row_of-Element, end_of-Element, more_of-Element}

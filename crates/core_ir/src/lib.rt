@@ -3,20 +3,22 @@
 
 mod card;
 mod layout;
-mod occurrences;
+mod occurring;
 mod path;
 mod phase;
+mod scoped_paths;
 mod tree;
 mod ty;
 
-pub use card::Card;
+pub use card::{Card, cards_bound, cards_keep};
 pub use ev_list::{Absent, Param};
 pub use layout::{Layout, LayoutField};
-pub use occurrences::ScopedPath;
-pub use path::{Path, PtrId, Root, Step, TypeId};
+pub use occurring::{all, all_inside, direct};
+pub use path::{Path, PtrId, Root, Step, TypeId, alike, copied_steps, paths_are_equal};
 pub use phase::{Carded, Core, Guarded, Typed};
+pub use scoped_paths::{ScopedPath, occurrences};
 pub use tree::{
     Alias, Conditional, Direct, Element, Expr, Key, Need, Occurrence, Order, Scope, Select, SetFunction,
     Width,
 };
-pub use ty::Ty;
+pub use ty::{Ty, copied_types};

@@ -3,7 +3,7 @@ use Rattle.std.proofs.Common.{◌≡◌, ◌++◌, drop}
 use Rattle.std.specs.List.{flat_map}
 use Rattle.core_ir.specs.Occurrences.{all, all_of_key}
 use Rattle.core_ir.specs.Parts.{all_in, all_of_alias, all_of_element}
-use Rattle.core_ir.proofs.occurrences.+all.Given as goal
+use Rattle.core_ir.proofs.occurring.+all.Given as goal
 
 abbrev pub invariant-collect_from-loop-expr : goal.invariant-collect_from-loop-expr
 invariant-collect_from-loop-expr l = l.out ++ flat_map all (drop l.expr-index l.exprs) ≡ l.fn.out ++ flat_map all l.exprs

@@ -1,24 +1,11 @@
-//! The paths that occur in a tree.
+//! The occurrences of paths in an expression.
 ghost use Rattle.std.specs.Prelude.{◌≡◌, ◌++◌, ◌∷◌, [], IfOk, OnOk, flat_map};
 ghost use Rattle.core_ir.specs.Occurrences.{direct as direct_in, all as all_in, all_of_key};
 ghost use Rattle.core_ir.specs.Parts.{all_in as all_of_scope, all_of_alias, all_of_element, all_if_there, all_of_rows, in_order};
-ghost use Rattle.core_ir.specs.declared.tree.Select.{out-Select};
 
-use crate::path::Path;
 use crate::tree::{Alias, Conditional, Direct, Element, Expr, Key, Occurrence, Order, Scope, Select};
 use ev_value::{Boxed, List};
 use std::alloc::{AllocError, Global};
-
-/// A path that stands at a place of the text, with the scopes that contain it.
-#[derive(Drop)]
-pub struct ScopedPath {
-    pub path: Path,
-    /// The numbers of the scopes, the outermost first. The query's own scope has the number 0; then a scope comes
-    /// before those inside it, and these before the next one beside it, which begins later.
-    pub scopes: List<u32>,
-    /// Whether it stands in an optional argument of its innermost scope.
-    pub optional: bool,
-}
 
 fn add_direct(
     alloc: Global,
