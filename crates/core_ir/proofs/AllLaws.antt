@@ -146,7 +146,7 @@ keys (k ∷ ks) = λ i. all_of_key k ++ keys ks i
 
 rolled : (n : ℕ) (xs : List Alias) (x : Expr) (k : ℕ) (f : Option Scope) (ks : List Key) (o l : Option Scope)
     → all (form.Select n xs (roll-Select (record { subject = x; number = k; filter = f; keys = ks; offset = o; limit = l })))
-      ≡ flat_map all_of_alias xs ++ (all x ++ all_if_there f ++ flat_map all_of_key ks) ++ all_if_there o ++ all_if_there l
+    ≡ flat_map all_of_alias xs ++ (all x ++ all_if_there f ++ flat_map all_of_key ks) ++ all_if_there o ++ all_if_there l
 unfolding all roll-Select carrier.roll carrier.hidden
 rolled n xs x k f ks o l = λ i. aliases xs i ++ (single x i ++ clause f i ++ keys ks i) ++ clause o i ++ clause l i
 

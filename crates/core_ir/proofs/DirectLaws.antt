@@ -6,7 +6,6 @@ use Rattle.ev_value.specs.declared.value.Val.{Val}
 use Rattle.ev_value.specs.declared.value.ScalarTy.{ScalarTy}
 use Rattle.ev_list.specs.declared.param.Param.{Param}
 use Rattle.core_ir.specs.Occurrences.{direct, direct_of}
-use Rattle.core_ir.specs.declared.tree.Direct.{Direct}
 use Rattle.core_ir.specs.declared.tree.Occurrence.{Occurrence}
 use Rattle.core_ir.specs.declared.tree.Scope.{Scope}
 use Rattle.core_ir.specs.declared.tree.SetFunction.{SetFunction}

@@ -2,3 +2,4 @@ pub mod Paths
 pub mod AllLaws
 pub mod DirectLaws
 pub mod ScopedLaws
+pub mod LayoutLaws

@@ -7,7 +7,6 @@ use Rattle.ev_list.specs.declared.param.Param.{Param}
 use Rattle.ev_list.specs.declared.order.Absent.{Absent}
 use Rattle.core_ir.specs.ScopedPaths.{scopes_in, scopes_in_all, scopes_among, scopes_in_elements, scopes_in_aliases, scopes_in_clause, scopes_in_keys, scopes_in_key, paths_in, paths_in_all, paths_in_scope, paths_among, paths_in_elements, paths_in_aliases, paths_in_clause, paths_in_keys, paths_in_key}
 use Rattle.core_ir.specs.ScopedParts.{total, in_turn, paths_of, scopes_of_scope, paths_of_scope, scopes_of_alias, paths_of_alias, scopes_of_element, paths_of_element, paths_of_key, scopes_of_clause, paths_of_clause, scopes_of_choice, paths_by_order, paths_of_choice, scopes_of_rows, paths_of_rows, scopes_of_loop, paths_of_loop}
-use Rattle.core_ir.specs.declared.scoped_paths.ScopedPath.{ScopedPath}
 use Rattle.core_ir.specs.declared.tree.Occurrence.{Occurrence}
 use Rattle.core_ir.specs.declared.tree.Scope.{Scope}
 use Rattle.core_ir.specs.declared.tree.SetFunction.{SetFunction}
@@ -144,7 +143,7 @@ module _ (m : ℕ) where
 
   scopes_rolled : (xs : List Alias) (x : Expr) (k : ℕ) (f : Option Scope) (ks : List Key) (o l : Option Scope)
       → scopes_in (form.Select m xs (roll-Select (record { subject = x; number = k; filter = f; keys = ks; offset = o; limit = l })))
-        ≡ suc (scopes_in x + scopes_of_clause f + total scopes_in_key ks) + total scopes_of_alias xs + scopes_of_clause o + scopes_of_clause l
+      ≡ suc (scopes_in x + scopes_of_clause f + total scopes_in_key ks) + total scopes_of_alias xs + scopes_of_clause o + scopes_of_clause l
   unfolding scopes_in roll-Select carrier.roll carrier.hidden
   scopes_rolled xs x k f ks o l = λ i. suc (one x i + clause f i + keys ks i) + aliases xs i + clause o i + clause l i
 
@@ -266,7 +265,7 @@ module _ (around : List ℕ) where
 
     choice : (d : Order) (c : Expr) (s t : Scope) (f g h : _)
         → paths_in (e.If' m d f (block.hidden-the_row-Expr-0 c) s.start g (block.hidden-the_row-Expr-0 s.body) t.start h (block.hidden-the_row-Expr-0 t.body)) n around o
-          ≡ paths_by_order d around o c s t n
+        ≡ paths_by_order d around o c s t n
     unfolding paths_in
     choice order.ValueFirst c s t f g h =
         λ i. scope s.body n i ++ alone c (n + suc (one s.body i)) o i ++ scope t.body (n + suc (one s.body i) + one c i) i
@@ -286,31 +285,31 @@ pub paths_for : (around : List ℕ) (m n : ℕ) (o : Bool) (xs : List Alias) (k 
 unfolding paths_in
 paths_for around m n o xs k s t =
     (λ i. paths_aliases around xs (n + suc (suc (one s.body i) + suc (one t.body i))) i
-      ++ scope (around ++ n ∷ []) s.body (suc n) i ++ scope (around ++ n ∷ []) t.body (suc n + suc (one s.body i)) i)
+    ++ scope (around ++ n ∷ []) s.body (suc n) i ++ scope (around ++ n ∷ []) t.body (suc n + suc (one s.body i)) i)
     ∙ append_assoc (in_turn scopes_of_alias (paths_of_alias around) xs (n + scopes_of_loop s t)) (paths_of_scope (around ++ n ∷ []) s (suc n)) (paths_of_scope (around ++ n ∷ []) t (suc n + scopes_of_scope s))
 
 paths_rolled : (around : List ℕ) (m n : ℕ) (p : Bool) (xs : List Alias) (x : Expr) (k : ℕ) (f : Option Scope) (ks : List Key) (o l : Option Scope)
     → paths_in (form.Select m xs (roll-Select (record { subject = x; number = k; filter = f; keys = ks; offset = o; limit = l }))) n around p
-      ≡ (let inner = around ++ n ∷ [] in
-         let behind = n + suc (scopes_in x + scopes_of_clause f + total scopes_in_key ks) in
-         in_turn scopes_of_alias (paths_of_alias around) xs behind
-           ++ (paths_in x (suc n) inner false ++ paths_of_clause inner f (suc n + scopes_in x)
-             ++ in_turn scopes_in_key (paths_of_key inner) ks (suc n + scopes_in x + scopes_of_clause f))
-           ++ paths_of_clause around o (behind + total scopes_of_alias xs)
-           ++ paths_of_clause around l (behind + total scopes_of_alias xs + scopes_of_clause o))
+    ≡ (let inner = around ++ n ∷ [] in
+    let behind = n + suc (scopes_in x + scopes_of_clause f + total scopes_in_key ks) in
+    in_turn scopes_of_alias (paths_of_alias around) xs behind
+    ++ (paths_in x (suc n) inner false ++ paths_of_clause inner f (suc n + scopes_in x)
+    ++ in_turn scopes_in_key (paths_of_key inner) ks (suc n + scopes_in x + scopes_of_clause f))
+    ++ paths_of_clause around o (behind + total scopes_of_alias xs)
+    ++ paths_of_clause around l (behind + total scopes_of_alias xs + scopes_of_clause o))
 unfolding paths_in roll-Select carrier.roll carrier.hidden
 paths_rolled around m n p xs x k f ks o l =
     λ i. paths_aliases around xs (n + suc (one x i + clause f i + keys ks i)) i
-      ++ (alone (around ++ n ∷ []) x (suc n) false i ++ paths_clause (around ++ n ∷ []) f (suc n + one x i) i
-        ++ paths_keys (around ++ n ∷ []) ks (suc n + one x i + clause f i) i)
-      ++ paths_clause around o (n + suc (one x i + clause f i + keys ks i) + aliases xs i) i
-      ++ paths_clause around l (n + suc (one x i + clause f i + keys ks i) + aliases xs i + clause o i) i
+    ++ (alone (around ++ n ∷ []) x (suc n) false i ++ paths_clause (around ++ n ∷ []) f (suc n + one x i) i
+    ++ paths_keys (around ++ n ∷ []) ks (suc n + one x i + clause f i) i)
+    ++ paths_clause around o (n + suc (one x i + clause f i + keys ks i) + aliases xs i) i
+    ++ paths_clause around l (n + suc (one x i + clause f i + keys ks i) + aliases xs i + clause o i) i
 
 pub paths_select : (around : List ℕ) (m n : ℕ) (o : Bool) (xs : List Alias) (s : Select)
     → paths_in (form.Select m xs s) n around o
-      ≡ in_turn scopes_of_alias (paths_of_alias around) xs (n + scopes_of_rows s) ++ paths_of_rows around s n
-        ++ paths_of_clause around (out-Select s).offset (n + scopes_of_rows s + total scopes_of_alias xs)
-        ++ paths_of_clause around (out-Select s).limit (n + scopes_of_rows s + total scopes_of_alias xs + scopes_of_clause (out-Select s).offset)
+    ≡ in_turn scopes_of_alias (paths_of_alias around) xs (n + scopes_of_rows s) ++ paths_of_rows around s n
+    ++ paths_of_clause around (out-Select s).offset (n + scopes_of_rows s + total scopes_of_alias xs)
+    ++ paths_of_clause around (out-Select s).limit (n + scopes_of_rows s + total scopes_of_alias xs + scopes_of_clause (out-Select s).offset)
 paths_select around m n o xs s =
     let r = out-Select s in
     ap (λ s. paths_in (form.Select m xs s) n around o) (sym (roll-out-Select s)) ∙ paths_rolled around m n o xs r.subject r.number r.filter r.keys r.offset r.limit

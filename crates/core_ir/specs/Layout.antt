@@ -12,7 +12,7 @@ use Rattle.core_ir.specs.declared.tree.Expr as e
 use Rattle.core_ir.specs.declared.tree.Select.{Select'}
 
 -- what has no shape in it: a scalar, an object, a tuple of these
-abbrev mutual
+unfoldable mutual
   pub plain : Ty → Layout
   plain (ty.Scalar _) = layout.Scalar
   plain (ty.Object _) = layout.Object
@@ -35,7 +35,7 @@ plain_slot (Some t) = plain t
 plain_slot None = layout.Scalar
 
 -- The layout of an expression with a type: shapes as they are written, tuples by their parts, and else what the type says.
-abbrev mutual
+unfoldable mutual
   pub layout_by : Expr → Option Ty → Layout
   layout_by (e.Shaped' _ _ _ _ _ elements) t = layout.Shape (fields elements)
   layout_by (e.Tuple' _ _ parts) (Some (ty.Tuple' _ types)) = layout.Tuple (layouts parts types)

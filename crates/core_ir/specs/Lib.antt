@@ -5,3 +5,4 @@ pub mod Card
 pub mod Layout
 pub mod ScopedPaths
 pub mod ScopedParts
+pub mod LayoutParts

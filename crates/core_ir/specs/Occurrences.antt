@@ -1,5 +1,5 @@
 -- Which paths occur in an expression, and which of them are bound where it stands.
-use Rattle.std.specs.Prelude.{ℕ, ◌+◌, Bool, true, false, List, [], ◌∷◌, ◌++◌}
+use Rattle.std.specs.Prelude.{Bool, true, List, [], ◌∷◌, ◌++◌}
 use Rattle.core_ir.specs.declared.tree.Direct.{Direct}
 use Rattle.core_ir.specs.declared.tree.Occurrence.{Occurrence}
 use Rattle.core_ir.specs.declared.tree.Order.TheVariants as order

@@ -4,8 +4,6 @@ use Rattle.core_ir.specs.declared.tree.Occurrence.{Occurrence}
 use Rattle.core_ir.specs.declared.tree.Scope.{Scope}
 use Rattle.core_ir.specs.declared.tree.Alias.{Alias}
 use Rattle.core_ir.specs.declared.tree.Element.{Element}
-use Rattle.core_ir.specs.declared.tree.Expr.{Expr}
-use Rattle.core_ir.specs.declared.tree.Key.{Key}
 use Rattle.core_ir.specs.declared.tree.Order.{Order}
 use Rattle.core_ir.specs.declared.tree.Order.TheVariants as order
 use Rattle.core_ir.specs.declared.tree.Select.{Select, out-Select}

@@ -1,5 +1,5 @@
 -- The occurrences of parts with the scopes that contain them, where the parts' first scope has a number.
-use Rattle.std.specs.Prelude.{ℕ, suc, ◌+◌, Bool, true, false, List, [], ◌∷◌, ◌++◌, Option, Some, None}
+use Rattle.std.specs.Prelude.{ℕ, suc, ◌+◌, Bool, false, List, [], ◌∷◌, ◌++◌, Option, Some, None}
 use Rattle.core_ir.specs.declared.scoped_paths.ScopedPath.{ScopedPath}
 use Rattle.core_ir.specs.declared.tree.Scope.{Scope}
 use Rattle.core_ir.specs.declared.tree.Alias.{Alias}
@@ -62,10 +62,10 @@ scopes_of_choice c = scopes_in c.condition + scopes_of_scope c.value + scopes_of
 abbrev pub paths_by_order : Order → List ℕ → Bool → Expr → Scope → Scope → ℕ → List ScopedPath
 paths_by_order order.ValueFirst around optional condition value other n =
     paths_of_scope around value n ++ paths_in condition (n + scopes_of_scope value) around optional
-      ++ paths_of_scope around other (n + scopes_of_scope value + scopes_in condition)
+    ++ paths_of_scope around other (n + scopes_of_scope value + scopes_in condition)
 paths_by_order order.ConditionFirst around optional condition value other n =
     paths_in condition n around optional ++ paths_of_scope around value (n + scopes_in condition)
-      ++ paths_of_scope around other (n + scopes_in condition + scopes_of_scope value)
+    ++ paths_of_scope around other (n + scopes_in condition + scopes_of_scope value)
 
 abbrev pub paths_of_choice : List ℕ → Bool → Conditional → ℕ → List ScopedPath
 paths_of_choice around optional c n = paths_by_order c.order around optional c.condition c.value c.other n
@@ -79,7 +79,7 @@ paths_of_rows around s n =
     let inner = around ++ n ∷ [] in
     let r = out-Select s in
     paths_in r.subject (suc n) inner false ++ paths_of_clause inner r.filter (suc n + scopes_in r.subject)
-      ++ in_turn scopes_in_key (paths_of_key inner) r.keys (suc n + scopes_in r.subject + scopes_of_clause r.filter)
+    ++ in_turn scopes_in_key (paths_of_key inner) r.keys (suc n + scopes_in r.subject + scopes_of_clause r.filter)
 
 -- the scope of a loop and those inside it
 abbrev pub scopes_of_loop : Scope → Scope → ℕ

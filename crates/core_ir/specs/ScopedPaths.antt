@@ -87,10 +87,10 @@ unfoldable mutual
       paths_in_all first n around true ++ paths_in_scope second (n + scopes_in_all first) around
   paths_in (e.If' _ order.ValueFirst _ condition _ _ value _ _ other) n around optional =
       paths_in_scope value n around ++ paths_in_all condition (n + suc (scopes_in_all value)) around optional
-        ++ paths_in_scope other (n + suc (scopes_in_all value) + scopes_in_all condition) around
+      ++ paths_in_scope other (n + suc (scopes_in_all value) + scopes_in_all condition) around
   paths_in (e.If' _ order.ConditionFirst _ condition _ _ value _ _ other) n around optional =
       paths_in_all condition n around optional ++ paths_in_scope value (n + scopes_in_all condition) around
-        ++ paths_in_scope other (n + scopes_in_all condition + suc (scopes_in_all value)) around
+      ++ paths_in_scope other (n + scopes_in_all condition + suc (scopes_in_all value)) around
   paths_in (e.Shaped' _ _ subject _ _ elements) n around optional =
       paths_in_all subject n around optional ++ paths_in_elements elements (n + scopes_in_all subject) around
   -- a statement's own scope has the first number, since it begins before its aliases do
@@ -98,14 +98,14 @@ unfoldable mutual
       let inner = around ++ n ∷ [] in
       let behind = n + suc (scopes_in_all subject + scopes_in_clause filter + scopes_in_keys keys) in
       paths_in_aliases aliases behind around
-        ++ (paths_in_all subject (suc n) inner false ++ paths_in_clause filter (suc n + scopes_in_all subject) inner
-          ++ paths_in_keys keys (suc n + scopes_in_all subject + scopes_in_clause filter) inner)
-        ++ paths_in_clause offset (behind + scopes_in_aliases aliases) around
-        ++ paths_in_clause limit (behind + scopes_in_aliases aliases + scopes_in_clause offset) around
+      ++ (paths_in_all subject (suc n) inner false ++ paths_in_clause filter (suc n + scopes_in_all subject) inner
+      ++ paths_in_keys keys (suc n + scopes_in_all subject + scopes_in_clause filter) inner)
+      ++ paths_in_clause offset (behind + scopes_in_aliases aliases) around
+      ++ paths_in_clause limit (behind + scopes_in_aliases aliases + scopes_in_clause offset) around
   paths_in (e.For' _ _ aliases _ _ _ iterator _ _ body) n around optional =
       let inner = around ++ n ∷ [] in
       paths_in_aliases aliases (n + suc (suc (scopes_in_all iterator) + suc (scopes_in_all body))) around
-        ++ paths_in_scope iterator (suc n) inner ++ paths_in_scope body (suc n + suc (scopes_in_all iterator)) inner
+      ++ paths_in_scope iterator (suc n) inner ++ paths_in_scope body (suc n + suc (scopes_in_all iterator)) inner
 
   pub paths_in_all : {m : _} → Row_of-Expr m → ℕ → List ℕ → Bool → List ScopedPath
   paths_in_all end_of-Expr n around optional = []

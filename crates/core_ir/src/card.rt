@@ -79,11 +79,9 @@ impl Card {
 /// What is made of lists within cardinalities lies within what is made of the cardinalities.
 pub fn cards_bound()
     ensures { CardsBound }
-{
-}
+{}
 
 /// The least and the most of what is made of cardinalities.
 pub fn cards_keep()
     ensures { CardsKeep }
-{
-}
+{}

@@ -3,7 +3,9 @@ ghost use Rattle.std.specs.Prelude.{◌≡◌, ◌++◌, ◌∷◌, [], IfOk, On
 ghost use Rattle.core_ir.specs.Occurrences.{direct as direct_in, all as all_in, all_of_key};
 ghost use Rattle.core_ir.specs.Parts.{all_in as all_of_scope, all_of_alias, all_of_element, all_if_there, all_of_rows, in_order};
 
-use crate::tree::{Alias, Conditional, Direct, Element, Expr, Key, Occurrence, Order, Scope, Select};
+use crate::tree::{
+    Alias, Conditional, Direct, Element, Expr, Key, Occurrence, Order, Scope, Select,
+};
 use ev_value::{Boxed, List};
 use std::alloc::{AllocError, Global};
 
@@ -78,11 +80,7 @@ fn collect_direct_of_all(
 }
 
 /// The occurrences that no inner scope contains, where the expression stands in an optional argument or does not.
-pub fn direct(
-    alloc: Global,
-    expr: &Expr,
-    optional: bool,
-) -> Result<List<Direct>, AllocError>
+pub fn direct(alloc: Global, expr: &Expr, optional: bool) -> Result<List<Direct>, AllocError>
     ensures { IfOk result (λ ds. ds ≡ direct_in expr.now optional) }
 {
     let mut found = List::new(alloc);
@@ -90,11 +88,7 @@ pub fn direct(
     Ok(found)
 }
 
-fn add(
-    alloc: Global,
-    occurrence: &Occurrence,
-    out: &mut List<Occurrence>,
-) -> Result<(), AllocError>
+fn add(alloc: Global, occurrence: &Occurrence, out: &mut List<Occurrence>) -> Result<(), AllocError>
     ensures { OnOk result (out.new ≡ out.old ++ occurrence.now ∷ []) }
 {
     out.push(occurrence.copied(alloc)?)
@@ -103,11 +97,7 @@ fn add(
 // Appends all occurrences of an expression, in the order of the text.
 #[cycle(all)]
 #[tactic(auto, using(crate::proofs::AllLaws::all_forms))]
-fn collect(
-    alloc: Global,
-    expr: &Expr,
-    out: &mut List<Occurrence>,
-) -> Result<(), AllocError>
+fn collect(alloc: Global, expr: &Expr, out: &mut List<Occurrence>) -> Result<(), AllocError>
     ensures { OnOk result (out.new ≡ out.old ++ all_in expr.now) }
 {
     match expr {
@@ -205,11 +195,7 @@ fn collect_from_clause(
 }
 
 #[cycle(all)]
-fn collect_from(
-    alloc: Global,
-    exprs: &[Expr],
-    out: &mut List<Occurrence>,
-) -> Result<(), AllocError>
+fn collect_from(alloc: Global, exprs: &[Expr], out: &mut List<Occurrence>) -> Result<(), AllocError>
     ensures { OnOk result (out.new ≡ out.old ++ flat_map all_in exprs.now) }
 {
     for expr in exprs {
@@ -276,11 +262,7 @@ fn collect_from_keys(
 
 #[cycle(all)]
 #[tactic(auto, using(crate::proofs::AllLaws::all_forms))]
-fn collect_from_key(
-    alloc: Global,
-    key: &Key,
-    out: &mut List<Occurrence>,
-) -> Result<(), AllocError>
+fn collect_from_key(alloc: Global, key: &Key, out: &mut List<Occurrence>) -> Result<(), AllocError>
     ensures { OnOk result (out.new ≡ out.old ++ all_of_key key.now) }
 {
     match key {

@@ -195,5 +195,4 @@ impl Path {
 /// Two paths are the same exactly where they are equal.
 pub fn paths_are_equal()
     ensures { PathsAreEqual }
-{
-}
+{}

@@ -180,9 +180,22 @@ fn locate_rows(
     let inner = within(alloc, around, *next)?;
     *next = after(*next)?;
     let mut found = List::new(alloc);
-    locate(alloc, select.subject.get(), false, inner.as_slice(), next, &mut found)?;
+    locate(
+        alloc,
+        select.subject.get(),
+        false,
+        inner.as_slice(),
+        next,
+        &mut found,
+    )?;
     locate_clause(alloc, &select.filter, inner.as_slice(), next, &mut found)?;
-    locate_keys(alloc, select.keys.as_slice(), inner.as_slice(), next, &mut found)?;
+    locate_keys(
+        alloc,
+        select.keys.as_slice(),
+        inner.as_slice(),
+        next,
+        &mut found,
+    )?;
     Ok(found)
 }
 
@@ -316,6 +329,13 @@ pub fn occurrences(alloc: Global, core: &Core) -> Result<List<ScopedPath>, Alloc
     let query = [0];
     let mut next = 1;
     let mut found = List::new(alloc);
-    locate(alloc, core.root.body.get(), false, &query, &mut next, &mut found)?;
+    locate(
+        alloc,
+        core.root.body.get(),
+        false,
+        &query,
+        &mut next,
+        &mut found,
+    )?;
     Ok(found)
 }

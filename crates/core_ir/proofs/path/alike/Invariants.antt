@@ -1,5 +1,5 @@
 -- What was alike so far, and what is alike from here on.
-use Rattle.std.proofs.Common.{◌≡◌, ◌+◌, ◌≤◌, drop, length}
+use Rattle.std.proofs.Common.{◌≡◌, ◌+◌, drop}
 use Rattle.core_ir.specs.Path.{alike}
 use Rattle.core_ir.proofs.path.alike.Given as goal
 
