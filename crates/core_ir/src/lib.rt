@@ -14,7 +14,7 @@ pub use card::{Card, cards_bound, cards_keep};
 pub use ev_list::{Absent, Param};
 pub use layout::{Layout, LayoutField, layout_of};
 pub use occurring::{all, all_inside, direct};
-pub use path::{Path, PtrId, Root, Step, TypeId, alike, copied_steps, paths_are_equal};
+pub use path::{Path, PtrId, Root, Step, TypeId, alike, copied_steps, paths_are_equal, same_steps};
 pub use phase::{Carded, Core, Guarded, Typed};
 pub use scoped_paths::{ScopedPath, occurrences};
 pub use tree::{

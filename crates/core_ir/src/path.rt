@@ -121,7 +121,8 @@ pub fn copied_steps(alloc: Global, steps: &[Step]) -> Result<List<Step>, AllocEr
 
 /// How many steps the two begin with alike.
 pub fn alike(left: &[Step], right: &[Step]) -> usize
-    ensures { result ≡ alike_of left.now right.now }
+    ensures count { result ≡ alike_of left.now right.now }
+    ensures within { result ≤ length left.now }
 {
     let mut rest = right;
     let mut count = 0;
@@ -137,8 +138,8 @@ pub fn alike(left: &[Step], right: &[Step]) -> usize
     count
 }
 
-// Whether they are the same steps.
-fn same_steps(left: &[Step], right: &[Step]) -> bool
+/// Whether they are the same steps.
+pub fn same_steps(left: &[Step], right: &[Step]) -> bool
     ensures { result ≡ steps_eq left.now right.now }
 {
     let mut rest = right;

@@ -23,11 +23,14 @@ is_optional ds p = list_all (λ d. not (begins p d.occurrence.path) || d.optiona
 abbrev pub is_bound : List Path → Path → Bool
 is_bound bound p = list_any (path_eq p) bound
 
+-- the root and the first n steps of an occurrence, as a prefix of a scope with these direct occurrences
+abbrev pub prefix_at : List Direct → Occurrence → ℕ → Prefix
+prefix_at ds o n = record { path = prefix n o.path; name = o.name; optional = is_optional ds (prefix n o.path) }
+
 -- what an occurrence begins with: its root and the first n steps, and so on with more steps
 abbrev pub beginnings : List Direct → Occurrence → ℕ → ℕ → List Prefix
 beginnings ds o n zero = []
-beginnings ds o n (suc more) =
-    record { path = prefix n o.path; name = o.name; optional = is_optional ds (prefix n o.path) } ∷ beginnings ds o (n + 1) more
+beginnings ds o n (suc more) = prefix_at ds o n ∷ beginnings ds o (n + 1) more
 
 -- all that an occurrence begins with, its root alone first
 abbrev pub prefixes_of : List Direct → Occurrence → List Prefix
@@ -42,11 +45,15 @@ abbrev pub added : List Prefix → List Prefix → List Prefix
 added found [] = found
 added found (p ∷ more) = added (if is_listed found p.path then found else found ++ p ∷ []) more
 
+-- whether a scope with these occurrences binds a prefix, where these paths are bound around it
+abbrev pub binds : List Direct → List Occurrence → List Path → Prefix → Bool
+binds ds os bound p = joins ds os p.path && not (is_bound bound p.path)
+
 -- The factored prefixes of a scope with these direct occurrences and these occurrences, where these paths are bound
 -- around it: the longest common prefixes of a direct occurrence and any occurrence that are not bound yet, by the first
 -- occurrence in the text that has them, then by length.
 abbrev pub factored : List Direct → List Occurrence → List Path → List Prefix
-factored ds os bound = added [] (filter (λ p. joins ds os p.path && not (is_bound bound p.path)) (flat_map (prefixes_of ds) os))
+factored ds os bound = added [] (filter (binds ds os bound) (flat_map (prefixes_of ds) os))
 
 -- the paths that are bound once a scope's prefixes are, the last one newest
 abbrev pub bound_within : List Prefix → List Path → List Path
