@@ -1,2 +1,3 @@
 pub mod Factored
 pub mod Scopes
+pub mod ScopeParts
