@@ -1,2 +1,3 @@
 pub mod Turns
+pub mod Bound
 pub mod ScopeLaws

@@ -3,8 +3,10 @@
 
 mod factored;
 mod prefix;
+mod scopes;
 mod tree;
 
 pub use factored::factored_prefixes;
 pub use prefix::Prefix;
+pub use scopes::{scopes_of, scopes_of_typed};
 pub use tree::ScopeTree;
