@@ -7,6 +7,8 @@ mod occurring;
 mod path;
 mod phase;
 mod scoped_paths;
+#[cfg(test)]
+mod tests;
 mod tree;
 mod ty;
 
