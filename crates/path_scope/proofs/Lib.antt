@@ -1,3 +1,4 @@
 pub mod Turns
 pub mod Bound
 pub mod ScopeLaws
+pub mod Longest

@@ -1,3 +1,4 @@
 pub mod Factored
 pub mod Scopes
 pub mod ScopeParts
+pub mod Stack

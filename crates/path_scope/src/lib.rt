@@ -4,9 +4,11 @@
 mod factored;
 mod prefix;
 mod scopes;
+mod stack;
 mod tree;
 
 pub use factored::factored_prefixes;
 pub use prefix::Prefix;
 pub use scopes::{scopes_of, scopes_of_typed};
+pub use stack::{Attached, ScopeStack};
 pub use tree::ScopeTree;
