@@ -23,14 +23,17 @@ fn is_common(path: &Path, left: &Path, right: &Path) -> bool
 fn joins_one(path: &Path, left: &Path, all: &[Occurrence]) -> bool
     ensures { result ≡ list_any (λ o. is_common_of path.now left.now o.path) all.now }
 {
-    all.iter().any(|occurrence| is_common(path, left, &occurrence.path))
+    all.iter()
+        .any(|occurrence| is_common(path, left, &occurrence.path))
 }
 
 // Whether it is the longest that a direct occurrence and any occurrence begin with.
 fn joins(path: &Path, direct: &[Direct], all: &[Occurrence]) -> bool
     ensures { result ≡ joins_of direct.now all.now path.now }
 {
-    direct.iter().any(|d| joins_one(path, &d.occurrence.path, all))
+    direct
+        .iter()
+        .any(|d| joins_one(path, &d.occurrence.path, all))
 }
 
 // Whether each direct occurrence that the path begins is optional.

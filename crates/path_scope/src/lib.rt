@@ -5,6 +5,8 @@ mod factored;
 mod prefix;
 mod scopes;
 mod stack;
+#[cfg(test)]
+mod tests;
 mod tree;
 
 pub use factored::factored_prefixes;

@@ -12,8 +12,8 @@ use crate::factored::factored_prefixes;
 use crate::prefix::Prefix;
 use crate::tree::ScopeTree;
 use core_ir::{
-    Alias, Conditional, Core, Element, Expr, Key, Order, Path, Root, Scope, Select, TypeId, Typed, all,
-    all_inside, direct,
+    Alias, Conditional, Core, Element, Expr, Key, Order, Path, Root, Scope, Select, TypeId, Typed,
+    all, all_inside, direct,
 };
 use ev_value::{Boxed, List};
 use std::alloc::{AllocError, Global};
@@ -28,7 +28,11 @@ fn prefixes_of_body(alloc: Global, body: &Expr, bound: &[Path]) -> Result<List<P
 }
 
 // The factored prefixes of a statement's own scope.
-fn prefixes_of_rows(alloc: Global, select: &Select, bound: &[Path]) -> Result<List<Prefix>, AllocError>
+fn prefixes_of_rows(
+    alloc: Global,
+    select: &Select,
+    bound: &[Path],
+) -> Result<List<Prefix>, AllocError>
     ensures { IfOk result (λ fs. fs ≡ factored (direct_in (out-Select select.now).subject false) (all_of_rows select.now) bound.now) }
 {
     let found = direct(alloc, select.subject.get(), false)?;
@@ -47,7 +51,11 @@ fn add_paths(alloc: Global, paths: &[Path], out: &mut List<Path>) -> Result<(), 
 }
 
 // Appends copies of the prefixes' paths, the last one first.
-fn add_prefix_paths(alloc: Global, prefixes: &[Prefix], out: &mut List<Path>) -> Result<(), AllocError>
+fn add_prefix_paths(
+    alloc: Global,
+    prefixes: &[Prefix],
+    out: &mut List<Path>,
+) -> Result<(), AllocError>
     ensures { OnOk result (out.new ≡ out.old ++ bound_within_of prefixes.now []) }
 {
     let mut rest = prefixes;
@@ -60,7 +68,11 @@ fn add_prefix_paths(alloc: Global, prefixes: &[Prefix], out: &mut List<Path>) ->
 
 // The paths that are bound where a scope's prefixes are, the newest first.
 #[tactic(auto, using(crate::proofs::Bound::within_apart))]
-fn bound_within(alloc: Global, prefixes: &[Prefix], bound: &[Path]) -> Result<List<Path>, AllocError>
+fn bound_within(
+    alloc: Global,
+    prefixes: &[Prefix],
+    bound: &[Path],
+) -> Result<List<Path>, AllocError>
     ensures { IfOk result (λ within. within ≡ bound_within_of prefixes.now bound.now) }
 {
     let mut within = List::new(alloc);

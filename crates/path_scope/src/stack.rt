@@ -33,11 +33,7 @@ impl Model for ScopeStack {
 }
 
 // The better of an answer so far and one more path that is attached.
-fn better(
-    best: Option<(usize, u32)>,
-    attached: &Attached,
-    path: &Path,
-) -> Option<(usize, u32)>
+fn better(best: Option<(usize, u32)>, attached: &Attached, path: &Path) -> Option<(usize, u32)>
     ensures { result ≡ better_of path.now best attached.now }
 {
     let steps = attached.path.steps.len();
@@ -52,11 +48,7 @@ fn better(
     }
 }
 
-fn best_in(
-    scope: &[Attached],
-    path: &Path,
-    start: Option<(usize, u32)>,
-) -> Option<(usize, u32)>
+fn best_in(scope: &[Attached], path: &Path, start: Option<(usize, u32)>) -> Option<(usize, u32)>
     ensures { result ≡ fold (better_of path.now) start scope.now }
 {
     let mut best = start;
