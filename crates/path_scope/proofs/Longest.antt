@@ -25,7 +25,7 @@ module _ (p : Path) where
   Best xs r = MatchOption r
       (All (λ (a : Attached). begins a.path p ≡ false) xs)
       (λ found. Any (λ (a : Attached). IsTrue (begins a.path p) × (length a.path.steps ≡ found.0) × (a.alias ≡ found.1)) xs
-        × All (λ (a : Attached). IsTrue (begins a.path p) → length a.path.steps ≤ found.0) xs)
+      × All (λ (a : Attached). IsTrue (begins a.path p) → length a.path.steps ≤ found.0) xs)
 
   abbrev Shorter : ℕ → Attached → Type 0
   Shorter n a = IsTrue (begins a.path p) → length a.path.steps ≤ n
@@ -65,5 +65,5 @@ module _ (p : Path) where
       → fold (better p) best (attached_in (drop i items)) ≡ fold (better p) None (attached_in items) → IsLongestBound open_scopes p best
   ended items open_scopes i best h e kept =
       let is : best ≡ fold (better p) None (attached_in open_scopes) =
-          sym (ap (λ l. fold (better p) best (attached_in l)) (drop_all i items h)) ∙ kept ∙ ap (λ l. fold (better p) None (attached_in l)) e in
+      sym (ap (λ l. fold (better p) best (attached_in l)) (drop_all i items h)) ∙ kept ∙ ap (λ l. fold (better p) None (attached_in l)) e in
       subst (λ r. IsLongestBound open_scopes p r) (sym is) (longest open_scopes)

@@ -137,7 +137,7 @@ module _ (bound : List Path) where
 
     choice : (d : Order) (c : Expr) (s t : Scope) (f g h : _)
         → inside (e.If' m d f (block.hidden-the_row-Expr-0 c) s.start g (block.hidden-the_row-Expr-0 s.body) t.start h (block.hidden-the_row-Expr-0 t.body)) bound
-          ≡ in_order d (inside c bound) (tree_of bound s ∷ []) (tree_of bound t ∷ [])
+        ≡ in_order d (inside c bound) (tree_of bound s ∷ []) (tree_of bound t ∷ [])
     unfolding inside carrier.hidden block.hidden-the_row-Expr-0
     choice order.ValueFirst c s t f g h = λ i. tree_of bound s ∷ single c i ++ tree_of bound t ∷ []
     choice order.ConditionFirst c s t f g h = (λ i. single c i ++ tree_of bound s ∷ tree_of bound t ∷ []) ∙ sym (append_assoc (inside c bound) (tree_of bound s ∷ []) (tree_of bound t ∷ []))
@@ -157,18 +157,18 @@ inside_for bound m xs k s t = λ i. tree_of_loop bound m k s t ∷ aliases bound
 
 rolled : (bound : List Path) (m : ℕ) (xs : List Alias) (x : Expr) (k : ℕ) (f : Option Scope) (ks : List Key) (o l : Option Scope)
     → inside (form.Select m xs (roll-Select (record { subject = x; number = k; filter = f; keys = ks; offset = o; limit = l }))) bound
-      ≡ scope_with m (direct x false) (all x ++ all_if_there f ++ flat_map all_of_key ks)
-          (λ qs. inside x qs ++ trees_of_clause (subject k ∷ qs) f ++ flat_map (trees_of_key (subject k ∷ qs)) ks) bound
-        ∷ (map (tree_of_alias bound) xs ++ trees_of_clause bound o ++ trees_of_clause bound l)
+    ≡ scope_with m (direct x false) (all x ++ all_if_there f ++ flat_map all_of_key ks)
+    (λ qs. inside x qs ++ trees_of_clause (subject k ∷ qs) f ++ flat_map (trees_of_key (subject k ∷ qs)) ks) bound
+    ∷ (map (tree_of_alias bound) xs ++ trees_of_clause bound o ++ trees_of_clause bound l)
 unfolding inside roll-Select carrier.roll carrier.hidden block.hidden-the_row-Expr-0
 rolled bound m xs x k f ks o l =
     λ i. scope_with m (direct x false) (all x ++ laws.clause f i ++ laws.keys ks i)
-        (λ qs. inside x qs ++ clause (subject k ∷ qs) f i ++ keys (subject k ∷ qs) ks i) bound
-      ∷ (aliases bound xs i ++ clause bound o i ++ clause bound l i)
+    (λ qs. inside x qs ++ clause (subject k ∷ qs) f i ++ keys (subject k ∷ qs) ks i) bound
+    ∷ (aliases bound xs i ++ clause bound o i ++ clause bound l i)
 
 pub inside_select : (bound : List Path) (m : ℕ) (xs : List Alias) (s : Select)
     → inside (form.Select m xs s) bound
-      ≡ tree_of_rows bound m s ∷ (map (tree_of_alias bound) xs ++ trees_of_clause bound (out-Select s).offset ++ trees_of_clause bound (out-Select s).limit)
+    ≡ tree_of_rows bound m s ∷ (map (tree_of_alias bound) xs ++ trees_of_clause bound (out-Select s).offset ++ trees_of_clause bound (out-Select s).limit)
 inside_select bound m xs s =
     let r = out-Select s in
     ap (λ s. inside (form.Select m xs s) bound) (sym (roll-out-Select s)) ∙ rolled bound m xs r.subject r.number r.filter r.keys r.offset r.limit

@@ -37,7 +37,7 @@ trees_of_clause bound (Some s) = tree_of bound s ∷ []
 abbrev pub inside_rows : Select → List Path → List ScopeTree
 inside_rows s bound =
     inside (out-Select s).subject bound ++ trees_of_clause (subject (out-Select s).number ∷ bound) (out-Select s).filter
-      ++ flat_map (trees_of_key (subject (out-Select s).number ∷ bound)) (out-Select s).keys
+    ++ flat_map (trees_of_key (subject (out-Select s).number ∷ bound)) (out-Select s).keys
 
 -- the scope of a statement that begins at a byte
 abbrev pub tree_of_rows : List Path → ℕ → Select → ScopeTree

@@ -49,11 +49,11 @@ unfoldable mutual
   -- a statement is a scope; its aliases, offset and limit stand beside it, and its subject is bound in its clauses
   inside (e.Select' start _ aliases (Select' _ (more_of-Expr x end_of-Expr) k filter _ keys offset limit)) bound =
       scope_with start (direct x false) (all x ++ all_of_clause filter ++ all_of_keys keys)
-          (λ qs. inside x qs ++ clause_scopes filter (subject k ∷ qs) ++ key_scopes keys (subject k ∷ qs)) bound
-        ∷ (alias_scopes aliases bound ++ clause_scopes offset bound ++ clause_scopes limit bound)
+      (λ qs. inside x qs ++ clause_scopes filter (subject k ∷ qs) ++ key_scopes keys (subject k ∷ qs)) bound
+      ∷ (alias_scopes aliases bound ++ clause_scopes offset bound ++ clause_scopes limit bound)
   inside (e.For' start _ aliases k s _ (more_of-Expr x end_of-Expr) t _ (more_of-Expr y end_of-Expr)) bound =
       scope_of start [] (scope_with s (direct x false) (all x) (inside x) bound ∷ scope_with t (direct y false) (all y) (inside y) (variable k ∷ bound) ∷ [])
-        ∷ alias_scopes aliases bound
+      ∷ alias_scopes aliases bound
   inside _ bound = []
 
   pub inside_all : {m : _} → Row_of-Expr m → List Path → List ScopeTree

@@ -31,7 +31,7 @@ abbrev pub IsLongestBound : List (List Attached) → Path → Option (ℕ × ℕ
 IsLongestBound open_scopes p r = MatchOption r
     (All (λ (a : Attached). begins a.path p ≡ false) (attached_in open_scopes))
     (λ found. Any (λ (a : Attached). IsTrue (begins a.path p) × (length a.path.steps ≡ found.0) × (a.alias ≡ found.1)) (attached_in open_scopes)
-      × All (λ (a : Attached). IsTrue (begins a.path p) → length a.path.steps ≤ found.0) (attached_in open_scopes))
+    × All (λ (a : Attached). IsTrue (begins a.path p) → length a.path.steps ≤ found.0) (attached_in open_scopes))
 
 -- the better of an answer so far and one more attached path
 abbrev pub longer_than : Option (ℕ × ℕ) → ℕ → Bool

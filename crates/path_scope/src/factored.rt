@@ -2,6 +2,7 @@
 ghost use Rattle.std.specs.Prelude.{◌≡◌, ◌∷◌, [], IfOk, OnOk, filter};
 ghost use Rattle.std.specs.List.{list_any};
 ghost use Rattle.path_scope.specs.Factored.{is_common as is_common_of, joins as joins_of, is_optional as is_optional_of, is_bound as is_bound_of, is_listed as is_listed_of, binds, prefix_at, prefixes_of, added, factored, bound_within as bound_within_of};
+ghost use Rattle.path_scope.specs.FactoredLaw.{FactoredIsExact};
 
 use crate::prefix::Prefix;
 use core_ir::{Direct, Occurrence, Path, alike, same_steps};
@@ -125,3 +126,9 @@ pub fn factored_prefixes(
     }
     Ok(found)
 }
+
+/// A scope's factored prefixes are the longest common prefixes of a direct occurrence and an occurrence that are not
+/// bound around it, each once.
+pub fn factored_is_exact()
+    ensures { FactoredIsExact }
+{}

@@ -9,7 +9,7 @@ mod stack;
 mod tests;
 mod tree;
 
-pub use factored::factored_prefixes;
+pub use factored::{factored_is_exact, factored_prefixes};
 pub use prefix::Prefix;
 pub use scopes::{scopes_of, scopes_of_typed};
 pub use stack::{Attached, ScopeStack};
