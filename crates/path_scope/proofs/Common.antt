@@ -1,14 +1,12 @@
 -- The longest common prefix of two paths, by the test and by its meaning.
-use Rattle.std.proofs.Common.{◌≡◌, ℕ, zero, suc, ◌+◌, ◌≤◌, Bool, true, false, ◌&&◌, List, [], ◌∷◌, length, IsTrue, ◌↔◌, refl, sym, ap, ◌∙◌, subst, arith, if◌then◌else◌}
+use Rattle.std.proofs.Common.{◌≡◌, ℕ, suc, ◌+◌, ◌≤◌, Bool, true, false, List, [], ◌∷◌, length, IsTrue, refl, sym, ap, ◌∙◌, arith, if◌then◌else◌}
 use Rattle.std.specs.Prelude.{take}
-use Rattle.std.specs.Bool.{Decides}
 use Rattle.std.proofs.lemmas.List.{length-take, length-take-le, take-take}
 use Rattle.std.proofs.lemmas.Bool.Decides.{Decides-and}
 use Rattle.core_ir.specs.declared.path.Path.{Path}
-use Rattle.core_ir.specs.declared.path.Root.{Root}
 use Rattle.core_ir.specs.declared.path.Step.{Step}
-use Rattle.core_ir.specs.Path.{root_eq, step_eq, steps_eq, path_eq, alike, prefix, begins}
-use Rattle.core_ir.proofs.Paths.{roots, steps, lists, paths}
+use Rattle.core_ir.specs.Path.{root_eq, step_eq, path_eq, alike, prefix, begins}
+use Rattle.core_ir.proofs.Paths.{roots, steps, paths}
 use Rattle.path_scope.specs.Factored.{is_common}
 use Rattle.path_scope.specs.FactoredLaw.{IsLongestCommon}
 

@@ -1,17 +1,15 @@
 -- The factored prefixes are the longest common prefixes that are not bound, each once.
-use Rattle.std.proofs.Common.{◌≡◌, ℕ, zero, suc, ◌+◌, ◌<◌, ◌≤◌, Bool, true, false, not, ◌&&◌, ◌||◌, List, [], ◌∷◌, ◌++◌, length, get_or, IsTrue, ◌↔◌, refl, sym, ap, ◌∙◌, subst, arith, if◌then◌else◌}
+use Rattle.std.proofs.Common.{◌≡◌, ℕ, zero, suc, ◌+◌, ◌<◌, Bool, true, false, not, ◌&&◌, ◌||◌, List, [], ◌∷◌, ◌++◌, length, get_or, IsTrue, ◌↔◌, refl, sym, ap, ◌∙◌, arith, if◌then◌else◌}
 use Rattle.std.specs.Prelude.{◌≢◌, AllPairs}
-use Rattle.std.specs.Bool.{Decides}
 use Rattle.std.specs.List.{Any, All, filter, flat_map, list_any}
-use Rattle.std.proofs.lemmas.Bool.Decides.{Decides-and}
-use Rattle.std.proofs.lemmas.List.{length-take-le, length-take}
+use Rattle.std.proofs.lemmas.List.{length-take}
 use Rattle.std.proofs.lemmas.List.Elements.{All-nil, All-cons, All-push, All-append}
 use Rattle.std.proofs.lemmas.List.Folds.{list_any-append, Any-from_list_any, list_any-from_Any, list_any_at}
 use Rattle.std.proofs.lemmas.List.Quantifiers.{all_pairs_push}
 use Rattle.core_ir.specs.declared.path.Path.{Path}
 use Rattle.core_ir.specs.declared.tree.Direct.{Direct}
 use Rattle.core_ir.specs.declared.tree.Occurrence.{Occurrence}
-use Rattle.core_ir.specs.Path.{path_eq, prefix, begins, alike, root_eq}
+use Rattle.core_ir.specs.Path.{path_eq, prefix, begins}
 use Rattle.core_ir.proofs.Paths.{paths}
 use Rattle.path_scope.specs.declared.prefix.Prefix.{Prefix}
 use Rattle.path_scope.specs.Factored.{is_common, joins, is_optional, is_bound, is_listed, binds, prefix_at, beginnings, prefixes_of, added, factored}

@@ -1,8 +1,8 @@
 -- Going over all attached paths finds the longest one that begins a path.
-use Rattle.std.proofs.Common.{◌≡◌, ℕ, ◌+◌, ◌<◌, ◌≤◌, Bool, true, false, ◌&&◌, List, [], ◌∷◌, ◌++◌, length, Option, Some, None, MatchOption, IsTrue, refl, sym, ap, ◌∙◌, subst, arith, length-append, append_assoc, append-nil, if◌then◌else◌}
+use Rattle.std.proofs.Common.{◌≡◌, ℕ, ◌<◌, ◌≤◌, Bool, true, false, ◌&&◌, List, [], ◌∷◌, ◌++◌, length, Option, Some, None, MatchOption, IsTrue, refl, sym, ap, ◌∙◌, subst, arith, length-append, append_assoc, append-nil, if◌then◌else◌}
 use Rattle.std.specs.Prelude.{nat_lt, drop}
 use Rattle.std.proofs.lemmas.Bool.{ltb-false}
-use Rattle.std.specs.List.{Any, All, fold, flat_map}
+use Rattle.std.specs.List.{Any, All, fold}
 use Rattle.std.proofs.lemmas.List.{get_or_append_left, drop_all}
 use Rattle.std.proofs.lemmas.List.Elements.{All-nil, All-push, All-weaker}
 use Rattle.std.proofs.lemmas.List.Quantifiers.{Any-push}
@@ -10,7 +10,7 @@ use Rattle.std.proofs.lemmas.Bool.Decides.{Decides-ltb}
 use Rattle.core_ir.specs.declared.path.Path.{Path}
 use Rattle.core_ir.specs.Path.{begins}
 use Rattle.path_scope.specs.declared.stack.Attached.{Attached}
-use Rattle.path_scope.specs.Stack.{attached_in, IsLongestBound, longer_than, better}
+use Rattle.path_scope.specs.Stack.{attached_in, IsLongestBound, better}
 
 any_left : {X : Type 0} (P : X → Type 0) (xs ys : List X) → Any P xs → Any P (xs ++ ys)
 any_left P xs ys found =

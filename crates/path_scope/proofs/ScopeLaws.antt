@@ -23,13 +23,12 @@ use Rattle.core_ir.specs.declared.tree.Expr as e
 use Rattle.core_ir.specs.declared.tree.Expr.TheVariants as form
 use Rattle.core_ir.specs.declared.tree.Expr.TheBlock as block
 use denote.Hole.Carrier as carrier
-use Rattle.core_ir.specs.Path.{subject, variable}
-use Rattle.core_ir.specs.Occurrences.{direct, all, all_of_clause, all_of_keys, all_of_key}
+use Rattle.core_ir.specs.Path.{subject}
+use Rattle.core_ir.specs.Occurrences.{direct, all, all_of_key}
 use Rattle.core_ir.specs.Parts.{in_order, all_if_there}
 use Rattle.core_ir.proofs.AllLaws as laws
-use Rattle.path_scope.specs.declared.tree.ScopeTree.{ScopeTree}
-use Rattle.path_scope.specs.Scopes.{scope_of, scope_with, inside, inside_all, scopes, element_scopes, alias_scopes, clause_scopes, key_scopes, key_scope}
-use Rattle.path_scope.specs.ScopeParts.{tree_of, inside_of, tree_of_alias, tree_of_element, trees_of_key, trees_of_clause, inside_rows, tree_of_rows, tree_of_loop}
+use Rattle.path_scope.specs.Scopes.{scope_with, inside, inside_all, scopes, element_scopes, alias_scopes, clause_scopes, key_scopes, key_scope}
+use Rattle.path_scope.specs.ScopeParts.{tree_of, inside_of, tree_of_alias, tree_of_element, trees_of_key, trees_of_clause, tree_of_rows, tree_of_loop}
 
 module _ (bound : List Path) where
   single : (x : Expr) → inside_all (block.hidden-the_row-Expr-0 x) bound ≡ inside x bound

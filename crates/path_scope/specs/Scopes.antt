@@ -1,5 +1,5 @@
 -- The scopes of a query, one inside the other, each with its factored prefixes.
-use Rattle.std.specs.Prelude.{ℕ, Bool, false, List, [], ◌∷◌, ◌++◌, Option, Some, None}
+use Rattle.std.specs.Prelude.{ℕ, false, List, [], ◌∷◌, ◌++◌, Option, Some, None}
 use Rattle.core_ir.specs.declared.path.Path.{Path}
 use Rattle.core_ir.specs.declared.path.TypeId.{TypeId}
 use Rattle.core_ir.specs.declared.phase.Core.{Core}

@@ -1,5 +1,5 @@
 -- A stack of open scopes, the innermost last, each with the paths that are attached to it.
-use Rattle.std.specs.Prelude.{◌≡◌, ℕ, ◌+◌, ◌-◌, ◌≤◌, ◌<◌, ◌==◌, nat_lt, IsTrue, Bool, true, false, ◌&&◌, List, [], ◌∷◌, ◌++◌, length, take, flat_map, fold, Option, Some, None, MatchOption, if◌then◌else◌}
+use Rattle.std.specs.Prelude.{◌≡◌, ℕ, ◌-◌, ◌≤◌, ◌==◌, nat_lt, IsTrue, Bool, true, false, ◌&&◌, List, [], length, take, flat_map, Option, Some, None, MatchOption, if◌then◌else◌}
 use Rattle.std.specs.List.{list_any, Any, All, slice_index_or}
 use Rattle.core_ir.specs.declared.path.Path.{Path}
 use Rattle.core_ir.specs.Path.{path_eq, begins}

@@ -1,5 +1,5 @@
 -- What was added so far, and what the occurrences that are left begin with.
-use Rattle.std.proofs.Common.{◌≡◌, drop, []}
+use Rattle.std.proofs.Common.{◌≡◌, drop}
 use Rattle.std.specs.List.{filter, flat_map}
 use Rattle.path_scope.specs.Factored.{binds, prefixes_of, added, factored}
 use Rattle.path_scope.proofs.factored.factored_prefixes.Given as goal
