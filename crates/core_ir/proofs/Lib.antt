@@ -1,0 +1,5 @@
+pub mod Paths
+pub mod AllLaws
+pub mod DirectLaws
+pub mod ScopedLaws
+pub mod LayoutLaws

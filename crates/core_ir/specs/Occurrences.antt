@@ -1,5 +1,6 @@
 -- Which paths occur in an expression, and which of them are bound where it stands.
-use Rattle.std.specs.Prelude.{ℕ, ◌+◌, Bool, true, false, List, [], ◌∷◌, ◌++◌}
+use Rattle.std.specs.Prelude.{Bool, true, List, [], ◌∷◌, ◌++◌}
+use Rattle.core_ir.specs.declared.tree.Direct.{Direct}
 use Rattle.core_ir.specs.declared.tree.Occurrence.{Occurrence}
 use Rattle.core_ir.specs.declared.tree.Order.TheVariants as order
 use Rattle.core_ir.specs.declared.tree.Expr.{Expr, Row_of-Expr, end_of-Expr, more_of-Expr, Row_of-Scope, end_of-Scope, more_of-Scope, Row_of-Alias, end_of-Alias, more_of-Alias, Row_of-Element, end_of-Element, more_of-Element}
@@ -7,13 +8,8 @@ use Rattle.core_ir.specs.declared.tree.Expr as e
 use Rattle.core_ir.specs.declared.tree.Select.{Select', Held-Select-filter, None', Some', Row_of-Key, end_of-Key, more_of-Key}
 use Rattle.core_ir.specs.declared.tree.Key as key
 
--- An occurrence and whether it stands in an optional argument of its scope.
-pub record Direct : Type 0 where
-  pub occurrence : Occurrence
-  pub optional : Bool
-
 -- The occurrences that no inner scope contains.
-abbrev mutual
+unfoldable mutual
   pub direct : Expr → Bool → List Direct
   direct (e.Literal _ _) optional = []
   direct (e.Param _ _) optional = []
@@ -40,7 +36,7 @@ abbrev mutual
   direct_of (more_of-Expr x rest) optional = direct x optional ++ direct_of rest optional
 
 -- All occurrences, in the order of the text; one that begins with a base expression stands behind those inside it.
-abbrev mutual
+unfoldable mutual
   pub all : Expr → List Occurrence
   all (e.Literal _ _) = []
   all (e.Param _ _) = []

@@ -1,5 +1,5 @@
 -- Paths: when two are the same, and what one begins with.
-use Rattle.std.specs.Prelude.{ℕ, ◌+◌, ◌==◌, Bool, true, false, ◌&&◌, List, [], ◌∷◌, take, length, if◌then◌else◌}
+use Rattle.std.specs.Prelude.{◌≡◌, ◌↔◌, IsTrue, ℕ, ◌+◌, ◌==◌, Bool, true, false, ◌&&◌, List, [], ◌∷◌, take, length, if◌then◌else◌}
 use Rattle.std.specs.Str.{bytes_eq}
 use Rattle.core_ir.specs.declared.path.Path.{Path}
 use Rattle.core_ir.specs.declared.path.Root.{Root}
@@ -59,3 +59,9 @@ subject k = root_path (root.Subject k)
 -- the variable of the `for` with a number
 abbrev pub variable : ℕ → Path
 variable k = root_path (root.Var k)
+
+-- Two paths are the same exactly where they are equal, and so are roots and steps.
+pub record PathsAreEqual : Type 0 where
+  pub of_roots : (r s : Root) → IsTrue (root_eq r s) ↔ (r ≡ s)
+  pub of_steps : (s t : Step) → IsTrue (step_eq s t) ↔ (s ≡ t)
+  pub of_paths : (p q : Path) → IsTrue (path_eq p q) ↔ (p ≡ q)

@@ -2,16 +2,25 @@
 #![tactic(auto)]
 
 mod card;
+mod layout;
+mod occurring;
 mod path;
 mod phase;
+mod scoped_paths;
+#[cfg(test)]
+mod tests;
 mod tree;
 mod ty;
 
-pub use card::Card;
-pub use path::{Path, PtrId, Root, Step, TypeId};
+pub use card::{Card, cards_bound, cards_keep};
+pub use ev_list::{Absent, Param};
+pub use layout::{Layout, LayoutField, layout_of};
+pub use occurring::{all, all_inside, direct};
+pub use path::{Path, PtrId, Root, Step, TypeId, alike, copied_steps, paths_are_equal, same_steps};
 pub use phase::{Carded, Core, Guarded, Typed};
+pub use scoped_paths::{ScopedPath, occurrences};
 pub use tree::{
-    Alias, Conditional, Element, EmptyPlace, Expr, Key, Need, Occurrence, Order, Param, Scope, Select,
+    Alias, Conditional, Direct, Element, Expr, Key, Need, Occurrence, Order, Scope, Select,
     SetFunction, Width,
 };
-pub use ty::Ty;
+pub use ty::{Ty, copied_types};

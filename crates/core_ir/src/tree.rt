@@ -3,10 +3,14 @@
 //! Each node carries the first byte of its text. A part whose paths are bound for themselves is a `Scope`. What a
 //! later phase finds out stands in a slot, empty until then.
 
+ghost use Rattle.std.specs.Prelude.{◌≡◌, IfOk};
+
 use crate::card::Card;
 use crate::path::Path;
 use crate::ty::Ty;
+use ev_list::{Absent, Param};
 use ev_value::{Boxed, List, Op, ScalarTy, Text, Val};
+use std::alloc::{AllocError, Global};
 
 /// A part of the text whose paths are bound for themselves: an argument that is a set, a condition, a key, an element,
 /// a branch, a definition, a base.
@@ -28,11 +32,23 @@ pub struct Occurrence {
     pub places: List<u32>,
 }
 
-/// A parameter of the query.
+impl Occurrence {
+    /// The same occurrence, in memory of its own.
+    pub fn copied(&self, alloc: Global) -> Result<Occurrence, AllocError>
+        ensures { IfOk result (λ o. o ≡ self.now) }
+    {
+        let name = self.name.copied(alloc)?;
+        let path = self.path.copied(alloc)?;
+        let places = List::from_slice(alloc, self.places.as_slice())?;
+        Ok(Occurrence { name, path, places })
+    }
+}
+
+/// A path of a scope that no inner scope contains.
 #[derive(Drop)]
-pub struct Param {
-    pub name: Text,
-    pub ty: ScalarTy,
+pub struct Direct {
+    pub occurrence: Occurrence,
+    /// Whether it stands in an argument of `??`, `?=` or `?!=` that may be empty.
     pub optional: bool,
 }
 
@@ -134,15 +150,8 @@ pub struct Select {
 #[derive(Drop)]
 #[cycle(core)]
 pub enum Key {
-    Ascending(EmptyPlace, Scope),
-    Descending(EmptyPlace, Scope),
-}
-
-/// Where an order puts what has no key.
-#[derive(Clone, Copy, Debug, PartialEq, Eq)]
-pub enum EmptyPlace {
-    First,
-    Last,
+    Ascending(Absent, Scope),
+    Descending(Absent, Scope),
 }
 
 /// An element of a shape.

@@ -1,0 +1,7 @@
+pub mod World
+pub mod Bindings
+pub mod Forms
+pub mod Operations
+pub mod Scopes
+pub mod Selects
+pub mod Meaning

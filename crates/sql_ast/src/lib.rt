@@ -1,0 +1,12 @@
+//! The trees of SQL statements, and the catalog that they are read over.
+#![tactic(auto)]
+
+mod catalog;
+mod expression;
+mod select;
+mod ty;
+
+pub use catalog::{Catalog, TableShape, Typed};
+pub use expression::{Binary, BinaryOp, Case, Function, SqlExpr, UnaryOp};
+pub use select::{Body, Column, Core, FromItem, Key, Select, Stmt};
+pub use ty::SqlTy;
