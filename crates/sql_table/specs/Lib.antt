@@ -1,0 +1,5 @@
+pub mod Same
+pub mod Operators
+pub mod Names
+pub mod Meaning
+pub mod Forms
