@@ -1,5 +1,6 @@
 pub mod Order
 pub mod Cut
-pub mod Distinct
+pub mod Occurrence
+pub mod Sames
 pub mod Single
 pub mod Aggregate

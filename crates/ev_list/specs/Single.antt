@@ -2,7 +2,7 @@
 use Rattle.std.specs.Prelude.{Bool, List, [], ◌∷◌, Option, Some, None, if◌then◌else◌}
 use Rattle.ev_value.specs.declared.item.Fault.{Fault}
 use Rattle.ev_value.specs.declared.item.Fault.TheVariants as fault
-use Rattle.ev_list.specs.Distinct.{has_repeat}
+use Rattle.ev_list.specs.Occurrence.{has_repeat}
 
 -- the fault of a list that is to have at most one element
 abbrev pub single_fault : {A : Type 0} → List A → Option Fault

@@ -2,8 +2,18 @@
 //! what is made of all elements.
 #![tactic(auto)]
 
+mod aggregate;
+mod cut;
+mod occurrence;
 mod order;
 mod param;
+mod same;
+mod single;
 
-pub use order::{Absent, Direction, KeyOrder, Keyed};
+pub use aggregate::{all_true, any_true, count, greatest, is_true, least, sum};
+pub use cut::{limit_of, section};
+pub use occurrence::{distinct, has_repeat};
+pub use order::{Absent, Direction, KeyOrder, Keyed, compare_keys, in_order, keyless};
 pub use param::Param;
+pub use same::Same;
+pub use single::{distinct_fault, exists_fault, single_fault};

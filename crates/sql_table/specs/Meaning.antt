@@ -6,7 +6,7 @@ use Rattle.ev_value.specs.declared.item.Item.{Item}
 use Rattle.ev_value.specs.declared.item.Item.TheVariants as item
 use Rattle.ev_value.specs.declared.value.Val as val
 use Rattle.ev_list.specs.Cut.{limit_of, section}
-use Rattle.ev_list.specs.Distinct.{distinct}
+use Rattle.ev_list.specs.Occurrence.{distinct}
 use Rattle.ev_list.specs.Order.{in_order, keyless}
 use Rattle.ev_list.specs.declared.order.Direction.TheVariants as direction
 use Rattle.ev_list.specs.declared.order.KeyOrder.{KeyOrder}

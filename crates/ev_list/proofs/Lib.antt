@@ -1,0 +1,4 @@
+pub mod Folds
+pub mod Keys
+pub mod Occurrences
+pub mod Sums
