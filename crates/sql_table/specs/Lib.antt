@@ -1,5 +1,6 @@
 pub mod Same
 pub mod Operators
+pub mod Outcome
 pub mod Names
 pub mod Meaning
 pub mod Forms

@@ -19,12 +19,11 @@ use Rattle.sql_ast.specs.declared.select.FromItem as f
 use Rattle.sql_ast.specs.declared.select.FromItem.{FromItem}
 use Rattle.sql_ast.specs.declared.select.Key as k
 use Rattle.sql_ast.specs.declared.select.Key.{Key}
-use Rattle.sql_table.specs.declared.cell.Cell.{Cell, Null, Val, out-Cell}
-use Rattle.sql_table.specs.declared.cell.Cell.TheOpen.{Cell-F}
+use Rattle.sql_table.specs.declared.cell.Cell.{Cell, Null, Val}
 use Rattle.sql_table.specs.declared.cell.Cell.TheVariants as cell
 use Rattle.sql_table.specs.declared.frame.Frame.{Frame}
 use Rattle.sql_table.specs.Same.{cell_same}
-use Rattle.sql_table.specs.Operators.{value_of, holds, truth_cell, unary_item, binary_item, cast_item, part, function_item}
+use Rattle.sql_table.specs.Operators.{value_of, holds, truth_cell, unary_item, binary_item, cast_item, part, elements, function_item}
 use Rattle.sql_table.specs.Names.{Name, Cells, Scope, World, Listed, column, entry, table_of, or_no_table, element_columns}
 
 -- ---- items
@@ -55,12 +54,12 @@ or_nulls columns [] = one (map (λ name. Null) columns)
 or_nulls columns (x ∷ xs) = x ∷ xs
 
 -- the elements of an array as rows of one cell; null has none
-abbrev pub rows_in : Cell-F Cell → List (Item Cells)
-rows_in (Cell-F.Array cs) = all_of (map (λ c. c ∷ []) cs)
-rows_in _ = []
+abbrev pub rows_among : Option (List Cell) → List (Item Cells)
+rows_among (Some cs) = all_of (map (λ c. c ∷ []) cs)
+rows_among None = []
 
 abbrev pub element_rows : Cell → List (Item Cells)
-element_rows x = rows_in (out-Cell x)
+element_rows x = rows_among (elements x)
 
 -- ---- ARRAY
 

@@ -53,30 +53,44 @@ on_one o x = strict (value_of x) (λ v. cell_item (item_of_op o (v ∷ [])))
 abbrev pub on_two : Op → Cell → Cell → Item Cell
 on_two o x y = strict (value_of x) (λ v. strict (value_of y) (λ w. cell_item (item_of_op o (v ∷ w ∷ []))))
 
+-- whether there is a value that is true
+abbrev pub is_true_there : Option val.Val → Bool
+is_true_there (Some v) = is_true v
+is_true_there None = false
+
 -- whether a cell is true: null is not
 abbrev pub holds : Cell → Bool
-holds (Val v) = is_true v
-holds _ = false
+holds x = is_true_there (value_of x)
 
--- whether a cell is false: null is not
-abbrev pub fails : Cell → Bool
-fails (Val (val.Bool b)) = not b
-fails _ = false
+-- whether a value is false
+abbrev pub is_false : val.Val → Bool
+is_false (val.Bool b) = not b
+is_false _ = false
 
 -- whether a cell is null
 abbrev pub is_null : Cell → Bool
 is_null Null = true
 is_null _ = false
 
--- AND and OR look at both operands. Beside a null, AND is false where the other operand is false and OR is true where
--- it is true; else they are null.
+-- AND looks at both operands: beside a null it is false where the other operand is false, and else null
+abbrev pub and_values : Option val.Val → Option val.Val → Item Cell
+and_values (Some v) (Some w) = cell_item (item_of_op op.And (v ∷ w ∷ []))
+and_values (Some v) None = item.Value (if is_false v then truth_cell false else Null)
+and_values None (Some w) = item.Value (if is_false w then truth_cell false else Null)
+and_values None None = item.Value Null
+
 abbrev pub and_item : Cell → Cell → Item Cell
-and_item (Val v) (Val w) = cell_item (item_of_op op.And (v ∷ w ∷ []))
-and_item x y = item.Value (if fails x then truth_cell false else (if fails y then truth_cell false else Null))
+and_item x y = and_values (value_of x) (value_of y)
+
+-- OR looks at both operands: beside a null it is true where the other operand is true, and else null
+abbrev pub or_values : Option val.Val → Option val.Val → Item Cell
+or_values (Some v) (Some w) = cell_item (item_of_op op.Or (v ∷ w ∷ []))
+or_values (Some v) None = item.Value (if is_true v then truth_cell true else Null)
+or_values None (Some w) = item.Value (if is_true w then truth_cell true else Null)
+or_values None None = item.Value Null
 
 abbrev pub or_item : Cell → Cell → Item Cell
-or_item (Val v) (Val w) = cell_item (item_of_op op.Or (v ∷ w ∷ []))
-or_item x y = item.Value (if holds x then truth_cell true else (if holds y then truth_cell true else Null))
+or_item x y = or_values (value_of x) (value_of y)
 
 -- what an operator gives on a cell
 abbrev pub unary_item : UnaryOp → Cell → Item Cell
@@ -112,21 +126,34 @@ abbrev pub or_null : Option Cell → Cell
 or_null (Some c) = c
 or_null None = Null
 
--- the part of a row with a number, from 1 on; null where there is none
-abbrev pub part_in : ℤ → Cell-F Cell → Cell
-part_in (pos (suc n)) (Cell-F.Row cs) = or_null (slice_get cs n)
-part_in _ _ = Null
+-- the parts of a row, where the cell is one
+abbrev pub parts_in : Cell-F Cell → Option (List Cell)
+parts_in (Cell-F.Row cs) = Some cs
+parts_in _ = None
+
+abbrev pub parts : Cell → Option (List Cell)
+parts x = parts_in (out-Cell x)
+
+-- the part with a number, from 1 on; null where there is none
+abbrev pub part_among : ℤ → Option (List Cell) → Cell
+part_among (pos (suc n)) (Some cs) = or_null (slice_get cs n)
+part_among _ _ = Null
 
 abbrev pub part : ℤ → Cell → Cell
-part z x = part_in z (out-Cell x)
+part number x = part_among number (parts x)
 
--- what f makes of the elements of an array; null where there is no array
-abbrev pub over_elements : (List Cell → Item Cell) → Cell-F Cell → Item Cell
-over_elements f (Cell-F.Array cs) = f cs
-over_elements f _ = item.Value Null
+-- the elements of an array, where the cell is one
+abbrev pub elements_in : Cell-F Cell → Option (List Cell)
+elements_in (Cell-F.Array cs) = Some cs
+elements_in _ = None
 
-abbrev pub over_array : (List Cell → Item Cell) → Cell → Item Cell
-over_array f x = over_elements f (out-Cell x)
+abbrev pub elements : Cell → Option (List Cell)
+elements x = elements_in (out-Cell x)
+
+-- what f makes of the elements; null where there is no array
+abbrev pub over : (List Cell → Item Cell) → Option (List Cell) → Item Cell
+over f (Some cs) = f cs
+over f None = item.Value Null
 
 -- the values among the elements: nulls are passed over
 abbrev pub present : List Cell → List val.Val
@@ -140,12 +167,12 @@ asserted None cs = item.Value (cell.Array cs)
 -- what a function gives on a cell
 abbrev pub function_item : Function → Cell → Item Cell
 function_item function.Len x = on_one op.Len x
-function_item function.CountOf x = over_array (λ cs. cell_item (count_item cs)) x
-function_item function.SumOf x = over_array (λ cs. cell_item (sum_item (present cs))) x
-function_item function.MinOf x = over_array (λ cs. item.Value (cell_of (least (present cs)))) x
-function_item function.MaxOf x = over_array (λ cs. item.Value (cell_of (greatest (present cs)))) x
-function_item function.AnyOf x = over_array (λ cs. cell_item (any_item (present cs))) x
-function_item function.AllOf x = over_array (λ cs. cell_item (all_item (present cs))) x
-function_item function.AssertSingle x = over_array (λ cs. asserted (single_fault cs) cs) x
-function_item function.AssertExists x = over_array (λ cs. asserted (exists_fault cs) cs) x
-function_item function.AssertDistinct x = over_array (λ cs. asserted (distinct_fault cell_same cs) cs) x
+function_item function.CountOf x = over (λ cs. cell_item (count_item cs)) (elements x)
+function_item function.SumOf x = over (λ cs. cell_item (sum_item (present cs))) (elements x)
+function_item function.MinOf x = over (λ cs. item.Value (cell_of (least (present cs)))) (elements x)
+function_item function.MaxOf x = over (λ cs. item.Value (cell_of (greatest (present cs)))) (elements x)
+function_item function.AnyOf x = over (λ cs. cell_item (any_item (present cs))) (elements x)
+function_item function.AllOf x = over (λ cs. cell_item (all_item (present cs))) (elements x)
+function_item function.AssertSingle x = over (λ cs. asserted (single_fault cs) cs) (elements x)
+function_item function.AssertExists x = over (λ cs. asserted (exists_fault cs) cs) (elements x)
+function_item function.AssertDistinct x = over (λ cs. asserted (distinct_fault cell_same cs) cs) (elements x)

@@ -3,10 +3,12 @@
 
 mod cell;
 mod frame;
+mod operators;
 mod shared;
 mod tables;
 
-pub use cell::{Cell, Row, Rows};
+pub use cell::{Cell, Row, Rows, copied_cells};
 pub use frame::Frame;
+pub use operators::{binary, cast_cell, holds, unary, value_of};
 pub use shared::Shared;
 pub use tables::Tables;
