@@ -1,5 +1,9 @@
 -- Definitions on cells, at the code's constructors.
-use Rattle.std.proofs.Common.{◌≡◌, List, [], ◌∷◌, ◌++◌, Option, Some, None, true, false, refl, ap, sym, ◌∙◌, reverse}
+use Rattle.std.proofs.Common.{◌≡◌, ℕ, zero, suc, ℤ, pos, negsuc, ◌≤ℤ◌, List, [], ◌∷◌, ◌++◌, Option, Some, None, true, false, refl, ap, sym, ◌∙◌, reverse, slice_get, arith}
+use Rattle.std.proofs.Common.{append_assoc}
+use Rattle.std.proofs.lemmas.Int.{ints}
+use Rattle.std.proofs.lemmas.List.{reverse-append}
+use Rattle.ev_value.proofs.Items.{append_nil}
 use Rattle.std.specs.Option.{option_to_list}
 use Rattle.std.specs.List.{filter_map, cons_option}
 use Rattle.ev_value.specs.declared.value.Val.{Val}
@@ -8,7 +12,7 @@ use Rattle.sql_table.specs.declared.cell.Cell.TheBlock as block
 use Rattle.sql_table.specs.declared.cell.Cell.TheVariants as cell
 use Rattle.sql_table.specs.declared.cell.Cell.TheViews as views
 use Rattle.sql_table.specs.declared.cell.Cell.TheOpen as open_cell
-use Rattle.sql_table.specs.Operators.{value_of, is_null, cast_item, parts, parts_in, elements, elements_in, present}
+use Rattle.sql_table.specs.Operators.{value_of, is_null, or_null, cast_item, part, part_among, parts, parts_in, elements, elements_in, present}
 use Rattle.ev_value.specs.declared.item.Item.TheVariants as item
 use Rattle.sql_ast.specs.declared.ty.SqlTy.{SqlTy}
 use Rattle.sql_ast.specs.declared.ty.SqlTy.TheBlock as ty_block
@@ -70,3 +74,32 @@ cast_row ts x = refl
 pub cast_array : (t : SqlTy) (x : Cell) → cast_item (ty.Array t) x ≡ item.Value cell.Null
 unfolding ty_block.hidden-the_row-SqlTy-1 carrier.hidden
 cast_array t x = refl
+
+-- ---- parts
+
+pub no_parts : (x : Cell) (z : ℤ) → parts x ≡ None → part z x ≡ cell.Null
+no_parts x z h = ap (part_among z) h ∙ nothing z
+  where
+    nothing : (z : ℤ) → part_among z None ≡ cell.Null
+    nothing (pos zero) = refl
+    nothing (pos (suc n)) = refl
+    nothing (negsuc n) = refl
+
+pub no_part : (x : Cell) (z : ℤ) → z ≤ℤ pos 0 → part z x ≡ cell.Null
+no_part x (pos zero) h = refl
+no_part x (pos (suc n)) h = absurd (omega (arith, ints))
+no_part x (negsuc n) h = refl
+
+pub part_at : (x : Cell) (cs : List Cell) (n : ℕ) → parts x ≡ Some cs → part (pos (suc n)) x ≡ or_null (slice_get cs n)
+part_at x cs n h = ap (part_among (pos (suc n))) h
+
+-- one turn of a loop that takes cells from the end: the cell has a value, or none
+pub value_turn : (whole : List Val) (old new : List Cell) (c : Cell) (v : Val) (taken more : List Val) → present old ++ reverse taken ≡ whole → old ≡ new ++ c ∷ [] → value_of c ≡ Some v → more ≡ taken ++ v ∷ [] → present new ++ reverse more ≡ whole
+value_turn whole old new c v taken more is e h m =
+    ap (λ l. present new ++ l) (ap reverse m ∙ reverse-append taken (v ∷ []))
+    ∙ sym (append_assoc (present new) (v ∷ []) (reverse taken))
+    ∙ sym (ap (λ l. l ++ reverse taken) (ap present e ∙ present_last new c ∙ ap (λ o. present new ++ option_to_list o) h)) ∙ is
+
+pub null_turn : (whole : List Val) (old new : List Cell) (c : Cell) (taken : List Val) → present old ++ reverse taken ≡ whole → old ≡ new ++ c ∷ [] → value_of c ≡ None → present new ++ reverse taken ≡ whole
+null_turn whole old new c taken is e h =
+    sym (ap (λ l. l ++ reverse taken) (ap present e ∙ present_last new c ∙ ap (λ o. present new ++ option_to_list o) h ∙ append_nil (present new))) ∙ is

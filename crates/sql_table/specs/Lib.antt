@@ -1,4 +1,5 @@
 pub mod Same
+pub mod SameLaws
 pub mod Operators
 pub mod Outcome
 pub mod Names

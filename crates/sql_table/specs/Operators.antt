@@ -164,15 +164,20 @@ abbrev pub asserted : Option Fault → List Cell → Item Cell
 asserted (Some e) cs = item.Fault e
 asserted None cs = item.Value (cell.Array cs)
 
--- what a function gives on a cell
+-- what a function gives on the elements of an array; LEN is none of these
+abbrev pub over_cells : Function → List Cell → Item Cell
+over_cells function.Len cs = item.Value Null
+over_cells function.CountOf cs = cell_item (count_item cs)
+over_cells function.SumOf cs = cell_item (sum_item (present cs))
+over_cells function.MinOf cs = item.Value (cell_of (least (present cs)))
+over_cells function.MaxOf cs = item.Value (cell_of (greatest (present cs)))
+over_cells function.AnyOf cs = cell_item (any_item (present cs))
+over_cells function.AllOf cs = cell_item (all_item (present cs))
+over_cells function.AssertSingle cs = asserted (single_fault cs) cs
+over_cells function.AssertExists cs = asserted (exists_fault cs) cs
+over_cells function.AssertDistinct cs = asserted (distinct_fault cell_same cs) cs
+
+-- what a function gives on a cell: LEN counts characters, the others go over the elements
 abbrev pub function_item : Function → Cell → Item Cell
 function_item function.Len x = on_one op.Len x
-function_item function.CountOf x = over (λ cs. cell_item (count_item cs)) (elements x)
-function_item function.SumOf x = over (λ cs. cell_item (sum_item (present cs))) (elements x)
-function_item function.MinOf x = over (λ cs. item.Value (cell_of (least (present cs)))) (elements x)
-function_item function.MaxOf x = over (λ cs. item.Value (cell_of (greatest (present cs)))) (elements x)
-function_item function.AnyOf x = over (λ cs. cell_item (any_item (present cs))) (elements x)
-function_item function.AllOf x = over (λ cs. cell_item (all_item (present cs))) (elements x)
-function_item function.AssertSingle x = over (λ cs. asserted (single_fault cs) cs) (elements x)
-function_item function.AssertExists x = over (λ cs. asserted (exists_fault cs) cs) (elements x)
-function_item function.AssertDistinct x = over (λ cs. asserted (distinct_fault cell_same cs) cs) (elements x)
+function_item called x = over (over_cells called) (elements x)

@@ -4,11 +4,12 @@
 mod cell;
 mod frame;
 mod operators;
+mod same;
 mod shared;
 mod tables;
 
 pub use cell::{Cell, Row, Rows, copied_cells};
 pub use frame::Frame;
-pub use operators::{binary, cast_cell, holds, unary, value_of};
+pub use operators::{binary, call, cast_cell, elements, holds, part, unary, value_of};
 pub use shared::Shared;
 pub use tables::Tables;

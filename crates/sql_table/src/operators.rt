@@ -1,8 +1,8 @@
 //! Operators, casts and functions on cells.
-ghost use Rattle.std.specs.Prelude.{◌≡◌, [], ◌∷◌, IfOk, if◌then◌else◌};
+ghost use Rattle.std.specs.Prelude.{◌≡◌, [], ◌∷◌, IfOk, slice_get, if◌then◌else◌};
 ghost use Rattle.ev_value.specs.Operator.{item_of_op};
 ghost use Rattle.sql_table.specs.declared.cell.Cell.{Null};
-ghost use Rattle.sql_table.specs.Operators.{truth_cell, value_of as value_of_cell, cell_of as cell_of_value, cell_item, holds as holds_cell, is_false as is_false_value, is_null as is_null_cell, on_one as on_one_item, on_two as on_two_item, and_item, or_item, unary_item, binary_item, cast_item, parts as parts_of, part as part_of, part_among, elements as elements_of, present as present_of, asserted as asserted_item, function_item};
+ghost use Rattle.sql_table.specs.Operators.{truth_cell, value_of as value_of_cell, cell_of as cell_of_value, cell_item, holds as holds_cell, is_false as is_false_value, is_null as is_null_cell, on_one as on_one_item, on_two as on_two_item, and_item, or_item, unary_item, binary_item, cast_item, parts as parts_of, part as part_of, part_among, elements as elements_of, present as present_of, asserted as asserted_item, or_null, over_cells, function_item};
 ghost use Rattle.sql_table.specs.Outcome.{Gives};
 
 use crate::cell::Cell;
@@ -179,5 +179,118 @@ pub fn cast_cell(alloc: Global, operand: Cell, ty: &SqlTy) -> Result<Cell, OpErr
         },
         SqlTy::Row(_) => Ok(Cell::Null),
         SqlTy::Array(_) => Ok(Cell::Null),
+    }
+}
+
+/// The elements of an array, where the cell is one.
+#[tactic(auto, using(crate::proofs::Cells::elements_array, crate::proofs::Cells::elements_row))]
+pub fn elements(cell: Cell) -> Option<List<Cell>>
+    ensures { result ≡ elements_of cell }
+{
+    match cell {
+        Cell::Null => None,
+        Cell::Val(_) => None,
+        Cell::Row(_) => None,
+        Cell::Array(cells) => Some(cells),
+    }
+}
+
+#[tactic(auto, using(crate::proofs::Cells::parts_array, crate::proofs::Cells::parts_row))]
+fn parts(cell: Cell) -> Option<List<Cell>>
+    ensures { result ≡ parts_of cell }
+{
+    match cell {
+        Cell::Null => None,
+        Cell::Val(_) => None,
+        Cell::Row(cells) => Some(cells),
+        Cell::Array(_) => None,
+    }
+}
+
+/// The cell at a place; null where there is none.
+fn cell_at(alloc: Global, cells: &[Cell], at: usize) -> Result<Cell, AllocError>
+    ensures { IfOk result (λ c. c ≡ or_null (slice_get cells.now at)) }
+{
+    match cells.get(at) {
+        Some(cell) => cell.copied(alloc),
+        None => Ok(Cell::Null),
+    }
+}
+
+/// The part of a row with a number. Parts count from 1; one that is not there is null.
+#[tactic(auto, using(crate::proofs::Cells::part_at, crate::proofs::Cells::no_part, crate::proofs::Cells::no_parts))]
+pub fn part(alloc: Global, row: Cell, number: i64) -> Result<Cell, AllocError>
+    ensures { IfOk result (λ c. c ≡ part_of number row) }
+{
+    let Some(cells) = parts(row) else {
+        return Ok(Cell::Null);
+    };
+    if number <= 0 {
+        return Ok(Cell::Null);
+    }
+    cell_at(alloc, cells.as_slice(), (number - 1) as usize)
+}
+
+/// The values among cells, in their order.
+fn present(alloc: Global, cells: List<Cell>) -> Result<List<Val>, AllocError>
+    ensures { IfOk result (λ vs. vs ≡ present_of cells) }
+{
+    let mut left = cells;
+    let mut taken = Vec::new(alloc);
+    while let Some(cell) = left.pop() {
+        if let Some(value) = value_of(cell) {
+            taken.push(value)?;
+        }
+    }
+    taken.reverse();
+    Ok(List::from_vec(taken))
+}
+
+fn give(item: Item) -> Result<Cell, OpError>
+    ensures { Gives result (cell_item item) }
+{
+    match item {
+        Item::Value(value) => Ok(Cell::Val(value)),
+        Item::Fault(fault) => Err(OpError::Fault(fault)),
+    }
+}
+
+fn asserted(fault: Option<Fault>, cells: List<Cell>) -> Result<Cell, OpError>
+    ensures { Gives result (asserted_item fault cells) }
+{
+    match fault {
+        Some(fault) => Err(OpError::Fault(fault)),
+        None => Ok(Cell::Array(cells)),
+    }
+}
+
+/// What a function gives on the elements of an array. `LEN` is none of these.
+fn over(alloc: Global, function: Function, cells: List<Cell>) -> Result<Cell, OpError>
+    ensures { Gives result (over_cells function cells) }
+{
+    match function {
+        Function::Len => Ok(Cell::Null),
+        Function::CountOf => give(count(cells.as_slice())),
+        Function::SumOf => give(sum(present(alloc, cells)?.as_slice())),
+        Function::MinOf => Ok(cell_of(least(present(alloc, cells)?))),
+        Function::MaxOf => Ok(cell_of(greatest(present(alloc, cells)?))),
+        Function::AnyOf => Ok(truth(any_true(present(alloc, cells)?.as_slice()))),
+        Function::AllOf => Ok(truth(all_true(present(alloc, cells)?.as_slice()))),
+        Function::AssertSingle => asserted(single_fault(cells.as_slice()), cells),
+        Function::AssertExists => asserted(exists_fault(cells.as_slice()), cells),
+        Function::AssertDistinct => asserted(distinct_fault(cells.as_slice()), cells),
+    }
+}
+
+/// What a function gives on a cell.
+pub fn call(alloc: Global, function: Function, operand: Cell) -> Result<Cell, OpError>
+    ensures { Gives result (function_item function operand) }
+{
+    match function {
+        Function::Len => on_one(Op::Len, operand),
+        _ => match elements(operand) {
+            None => Ok(Cell::Null),
+            Some(cells) => over(alloc, function, cells),
+        },
     }
 }
