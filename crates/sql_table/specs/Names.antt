@@ -1,11 +1,14 @@
 -- What the names of a statement stand for.
-use Rattle.std.specs.Prelude.{ℕ, List, [], ◌∷◌, codes, map, Option, Some, None, if◌then◌else◌}
+use Rattle.std.specs.Prelude.{◌≡◌, ℕ, List, [], ◌∷◌, codes, map, Option, Some, None, IfSome, IsSome, if◌then◌else◌}
+use denote.Ref.{Bor}
 use Rattle.std.specs.Str.{bytes_eq}
 use Rattle.ev_value.specs.declared.args.Args.{Args}
 use Rattle.ev_value.specs.declared.args.Argument.{Argument}
+use Rattle.sql_ast.specs.declared.catalog.Catalog.{Catalog}
 use Rattle.sql_ast.specs.declared.catalog.TableShape.{TableShape}
 use Rattle.sql_table.specs.declared.cell.Cell.{Cell, Null, Val}
 use Rattle.sql_table.specs.declared.frame.Frame.{Frame}
+use Rattle.sql_table.specs.declared.tables.Table.{Table}
 use Rattle.sql_table.specs.declared.tables.Tables.{Tables}
 
 -- the bytes of a name
@@ -49,10 +52,20 @@ pub record Listed : Type 0 where
 abbrev pub no_table : Listed
 no_table = record { columns = []; rows = [] }
 
+-- the names of the columns of a table
+abbrev pub columns_of : TableShape → List Name
+columns_of t = map (λ c. c.name) t.columns
+
 -- the table with a name among those of a catalog, whose rows stand in the same order
 abbrev pub table_among : Name → List TableShape → List (List Cells) → Option Listed
-table_among name (t ∷ ts) (rows ∷ more) = if bytes_eq t.name name then Some (record { columns = map (λ c. c.name) t.columns; rows = rows }) else table_among name ts more
+table_among name (t ∷ ts) (rows ∷ more) = if bytes_eq t.name name then Some (record { columns = columns_of t; rows = rows }) else table_among name ts more
 table_among name _ _ = None
+
+abbrev pub catalog_of : Tables → Catalog
+catalog_of tables = tables.catalog
+
+abbrev pub rows_of_tables : Tables → List (List Cells)
+rows_of_tables tables = tables.rows
 
 abbrev pub table_of : Name → Tables → Option Listed
 table_of name tables = table_among name tables.catalog.tables tables.rows
@@ -64,3 +77,13 @@ or_no_table None = no_table
 -- the one column of an array's elements
 abbrev pub element_columns : List Name
 element_columns = codes "c1" ∷ []
+
+-- a look for a table tells what is there
+abbrev pub IsTable : Option Table → Option Listed → Type 0
+IsTable None found = found ≡ None
+IsTable (Some t) found = found ≡ Some (record { columns = columns_of t.shape.now; rows = t.rows.now })
+
+-- a look for rows tells those of the table
+abbrev pub AreRows : Option (Bor (List Cells)) → Option Listed → Type 0
+AreRows None found = found ≡ None
+AreRows (Some rows) found = IfSome found (λ t. t.rows ≡ rows.now) × (IsSome found)

@@ -9,7 +9,7 @@ mod shared;
 mod tables;
 
 pub use cell::{Cell, Row, Rows, copied_cells};
-pub use frame::Frame;
+pub use frame::{Frame, Scope, column, entry};
 pub use operators::{binary, call, cast_cell, elements, holds, part, unary, value_of};
 pub use shared::Shared;
-pub use tables::Tables;
+pub use tables::{Table, Tables, column_names};
