@@ -1,4 +1,5 @@
 pub mod Folds
+pub mod ItemTurns
 pub mod Keys
 pub mod Occurrences
 pub mod Sums

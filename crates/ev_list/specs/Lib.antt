@@ -1,5 +1,6 @@
 pub mod Order
 pub mod Cut
+pub mod Items
 pub mod Occurrence
 pub mod Sames
 pub mod Single
