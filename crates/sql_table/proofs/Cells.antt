@@ -1,11 +1,11 @@
 -- Definitions on cells, at the code's constructors.
-use Rattle.std.proofs.Common.{◌≡◌, ℕ, zero, suc, ℤ, pos, negsuc, ◌≤ℤ◌, List, [], ◌∷◌, ◌++◌, Option, Some, None, true, false, refl, ap, sym, ◌∙◌, reverse, slice_get, arith}
+use Rattle.std.proofs.Common.{◌≡◌, ℕ, zero, suc, ℤ, pos, negsuc, ◌≤ℤ◌, List, [], ◌∷◌, ◌++◌, Option, Some, None, false, refl, ap, sym, ◌∙◌, reverse, slice_get, arith}
 use Rattle.std.proofs.Common.{append_assoc}
 use Rattle.std.proofs.lemmas.Int.{ints}
 use Rattle.std.proofs.lemmas.List.{reverse-append}
 use Rattle.ev_value.proofs.Items.{append_nil}
 use Rattle.std.specs.Option.{option_to_list}
-use Rattle.std.specs.List.{filter_map, cons_option}
+use Rattle.std.specs.List.{cons_option}
 use Rattle.ev_value.specs.declared.value.Val.{Val}
 use Rattle.sql_table.specs.declared.cell.Cell.{Cell, out-roll-Cell}
 use Rattle.sql_table.specs.declared.cell.Cell.TheBlock as block

@@ -1,8 +1,8 @@
 -- The meaning at the code's constructors.
-use Rattle.std.proofs.Common.{◌≡◌, List, [], ◌∷◌, ◌++◌, Bool, true, false, cond, Option, Some, None, refl, ap, sym, ◌∙◌, map, ℤ}
-use Rattle.ev_value.specs.Item.{bind, one, all_of}
-use Rattle.ev_value.specs.declared.item.Item.{Item}
+use Rattle.std.proofs.Common.{◌≡◌, List, [], ◌∷◌, ◌++◌, Bool, true, false, cond, Option, Some, None, refl, ap, ℤ, ℕ}
+use Rattle.ev_value.specs.Item.{bind, all_of}
 use Rattle.ev_value.specs.declared.item.Item.TheVariants as item
+use Rattle.ev_value.specs.declared.value.Val as val
 use Rattle.ev_list.specs.declared.order.Absent.{Absent}
 use Rattle.sql_ast.specs.declared.expression.Binary.{Binary}
 use Rattle.sql_ast.specs.declared.expression.Case.{Case}
@@ -22,10 +22,10 @@ use Rattle.sql_ast.specs.declared.select.Key.TheVariants as key
 use Rattle.sql_ast.specs.declared.select.Select.{Select}
 use Rattle.sql_ast.specs.declared.ty.SqlTy.{SqlTy}
 use Rattle.sql_table.specs.declared.cell.Cell.TheVariants as cell
-use Rattle.sql_table.specs.Names.{Name, Cells, Scope, World}
+use Rattle.sql_table.specs.Names.{Name, Scope, World, column, entry, table_of, or_no_table, element_columns}
 use Rattle.sql_table.specs.Operators.{holds, part, binary_item, unary_item, cast_item, function_item, value_of}
-use Rattle.sql_table.specs.Meaning.{on_value, first_cells, selected, row_where, each_under, or_nulls, column_names, names_of_core, names_of_select, orders_of, order_of, is_there, cell_of_expr, rows_of_core, turns_of_item, turns_of_from, cells_of_exprs, rows_of_cores, cells_of_columns, values_of_keys, cell_of_key, truth_of_condition, cell_or_null}
-use Rattle.sql_table.specs.Forms.{names_of, names_of_cores, orders_of_keys, is_present, cells_of_all, cells_of, values_of, turns_of, rows_of, truth_of, bound_of, row_of, clauses_of, core_rows}
+use Rattle.sql_table.specs.Meaning.{on_value, for_value, element_rows, first_cells, selected, row_where, each_under, or_nulls, column_names, names_of_core, names_of_select, orders_of, order_of, is_there, cell_of_expr, rows_of_core, turns_of_item, turns_of_from, cells_of_exprs, rows_of_cores, cells_of_columns, values_of_keys, cell_of_key, truth_of_condition, cell_or_null}
+use Rattle.sql_table.specs.Forms.{names_of, names_of_cores, orders_of_keys, is_present, cells_of_all, cells_of, values_of, turns_of, rows_of, truth_of, bound_of, row_of, core_rows}
 use denote.Hole.Carrier as carrier
 
 -- ---- names, orders and options
@@ -158,3 +158,45 @@ module _ (w : World) where
   pub of_left : (s : Select) (alias : Name) (r : Scope) → turns_of_item w (from.LeftLateral s alias) r ≡ each_under alias (names_of_cores s.cores) r (or_nulls (names_of_cores s.cores) (rows_of w s.cores r))
   unfolding cell_of_expr
   of_left s alias r = λ i. each_under alias (names_of_hidden s.cores i) r (or_nulls (names_of_hidden s.cores i) (rows_hidden s.cores r i))
+
+  pub of_table : (name alias : Name) (r : Scope) → turns_of_item w (from.Table name alias) r ≡ (let t = or_no_table (table_of name w.tables) in each_under alias t.columns r (all_of t.rows))
+  unfolding cell_of_expr
+  of_table name alias r = refl
+
+  pub of_unnest : (array : SqlExpr) (alias : Name) (r : Scope) → turns_of_item w (from.Unnest array alias) r ≡ for_value (cell_of_expr w array r) (λ x. each_under alias element_columns r (element_rows x))
+  unfolding cell_of_expr
+  of_unnest array alias r = refl
+
+  -- ---- leaves
+
+  pub of_int : (z : ℤ) (r : Scope) → cell_of_expr w (expr.Int z) r ≡ item.Value (cell.Val (val.Int z))
+  unfolding cell_of_expr
+  of_int z r = refl
+
+  pub of_text : (s : List ℕ) (r : Scope) → cell_of_expr w (expr.Text s) r ≡ item.Value (cell.Val (val.Str s))
+  unfolding cell_of_expr
+  of_text s r = refl
+
+  pub of_bool : (b : Bool) (r : Scope) → cell_of_expr w (expr.Bool b) r ≡ item.Value (cell.Val (val.Bool b))
+  unfolding cell_of_expr
+  of_bool b r = refl
+
+  pub of_uuid : (n : ℕ) (r : Scope) → cell_of_expr w (expr.Uuid n) r ≡ item.Value (cell.Val (val.Id n))
+  unfolding cell_of_expr
+  of_uuid n r = refl
+
+  pub of_null : (ty : SqlTy) (r : Scope) → cell_of_expr w (expr.Null ty) r ≡ item.Value cell.Null
+  unfolding cell_of_expr
+  of_null ty r = refl
+
+  pub of_column : (alias name : Name) (r : Scope) → cell_of_expr w (expr.Column alias name) r ≡ item.Value (column alias name r)
+  unfolding cell_of_expr
+  of_column alias name r = refl
+
+  pub of_arg : (name : Name) (ty : SqlTy) (r : Scope) → cell_of_expr w (expr.Arg name ty) r ≡ item.Value (entry name w.args.params)
+  unfolding cell_of_expr
+  of_arg name ty r = refl
+
+  pub of_global : (name : Name) (r : Scope) → cell_of_expr w (expr.Global name) r ≡ item.Value (entry name w.args.globals)
+  unfolding cell_of_expr
+  of_global name r = refl

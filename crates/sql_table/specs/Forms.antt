@@ -35,6 +35,10 @@ abbrev pub is_present : Option SqlExpr → Bool
 is_present None = false
 is_present (Some x) = true
 
+-- the clauses of a core
+abbrev pub clauses_of : Bool → Body → Clauses
+clauses_of is_distinct body = record { is_distinct = is_distinct; orders = orders_of_keys body.keys; has_offset = is_present body.offset; has_limit = is_present body.limit }
+
 module _ (w : World) where
   -- the cells of expressions, or the first fault
   abbrev pub cells_of_all : List SqlExpr → Scope → Item Cells
@@ -74,10 +78,6 @@ module _ (w : World) where
   -- the row of one turn
   abbrev pub row_of : List Column → Body → Scope → List (Item (Keyed Cells))
   row_of columns body turn = row_where (truth_of body.condition turn) (cells_of columns turn) (values_of body.keys turn)
-
-  -- the clauses of a core
-  abbrev pub clauses_of : Bool → Body → Clauses
-  clauses_of is_distinct body = record { is_distinct = is_distinct; orders = orders_of_keys body.keys; has_offset = is_present body.offset; has_limit = is_present body.limit }
 
   -- the rows of a core
   abbrev pub core_rows : Bool → List Column → Body → Scope → List (Item Cells)

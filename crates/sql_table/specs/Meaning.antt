@@ -1,5 +1,5 @@
 -- What a statement means: the list of its rows, with a fault where a row would stand.
-use Rattle.std.specs.Prelude.{ℕ, Bool, true, false, not, ◌||◌, List, [], ◌∷◌, ◌++◌, map, Option, Some, None, if◌then◌else◌}
+use Rattle.std.specs.Prelude.{ℕ, Bool, true, false, ◌||◌, List, [], ◌∷◌, ◌++◌, map, Option, Some, None, if◌then◌else◌}
 use Rattle.std.specs.Cmp.Lexicographic.{pointwise}
 use Rattle.ev_value.specs.Item.{bind, one, all_of, collect}
 use Rattle.ev_value.specs.declared.item.Item.{Item}
@@ -21,10 +21,9 @@ use Rattle.sql_ast.specs.declared.select.Key as k
 use Rattle.sql_ast.specs.declared.select.Key.{Key}
 use Rattle.sql_table.specs.declared.cell.Cell.{Cell, Null, Val}
 use Rattle.sql_table.specs.declared.cell.Cell.TheVariants as cell
-use Rattle.sql_table.specs.declared.frame.Frame.{Frame}
 use Rattle.sql_table.specs.Same.{cell_same}
 use Rattle.sql_table.specs.Operators.{value_of, holds, truth_cell, unary_item, binary_item, cast_item, part, elements, function_item}
-use Rattle.sql_table.specs.Names.{Name, Cells, Scope, World, Listed, column, entry, table_of, or_no_table, element_columns}
+use Rattle.sql_table.specs.Names.{Name, Cells, Scope, World, column, entry, table_of, or_no_table, element_columns}
 
 -- ---- items
 

@@ -1,5 +1,5 @@
 -- What operators, casts and functions give on cells.
-use Rattle.std.specs.Prelude.{ℕ, zero, suc, Bool, true, false, not, List, [], ◌∷◌, ℤ, pos, Option, Some, None, slice_get, filter_map, if◌then◌else◌}
+use Rattle.std.specs.Prelude.{suc, Bool, true, false, not, List, [], ◌∷◌, ℤ, pos, Option, Some, None, slice_get, filter_map, if◌then◌else◌}
 use Rattle.ev_value.specs.Casts.{item_of_cast}
 use Rattle.ev_value.specs.Operator.{item_of_op}
 use Rattle.ev_value.specs.declared.item.Fault.{Fault}

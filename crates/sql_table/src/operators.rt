@@ -7,7 +7,8 @@ ghost use Rattle.sql_table.specs.Outcome.{Gives};
 
 use crate::cell::Cell;
 use ev_list::{
-    all_true, any_true, count, distinct_fault, exists_fault, greatest, is_true, least, single_fault, sum,
+    all_true, any_true, count, distinct_fault, exists_fault, greatest, is_true, least,
+    single_fault, sum,
 };
 use ev_value::{Fault, Item, List, Op, OpError, Val, apply_op, cast};
 use sql_ast::{BinaryOp, Function, SqlTy, UnaryOp};

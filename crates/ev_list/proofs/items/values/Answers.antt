@@ -1,4 +1,4 @@
-use Rattle.std.proofs.Common.{◌≡◌, ◌∷◌, ◌++◌, [], ap, ◌∙◌}
+use Rattle.std.proofs.Common.{◌∷◌, ◌++◌, [], ap, ◌∙◌}
 use Rattle.ev_list.proofs.ItemTurns.{value_turn, fault_turn}
 use Rattle.ev_list.proofs.items.values.Goals as goal
 

@@ -1,4 +1,4 @@
-use Rattle.std.proofs.Common.{◌≡◌, sym, ◌∙◌}
+use Rattle.std.proofs.Common.{sym, ◌∙◌}
 use Rattle.sql_table.proofs.Cells.{value_turn, null_turn}
 use Rattle.sql_table.proofs.operators.present.Goals as goal
 

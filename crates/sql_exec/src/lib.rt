@@ -1,0 +1,10 @@
+//! Runs statements of SQL over tables.
+#![tactic(auto)]
+
+mod arrange;
+mod engine;
+mod row;
+mod run;
+mod turn;
+
+pub use run::{ExecError, exec};
