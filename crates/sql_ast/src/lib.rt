@@ -8,5 +8,5 @@ mod ty;
 
 pub use catalog::{Catalog, TableShape, Typed};
 pub use expression::{Binary, BinaryOp, Case, Function, SqlExpr, UnaryOp};
-pub use select::{Body, Column, Core, FromItem, Key, Select, Stmt};
+pub use select::{Body, Column, Core, FromItem, Key, MAX_NESTING, Select, Stmt};
 pub use ty::SqlTy;

@@ -1,0 +1,4 @@
+pub mod Nesting
+pub mod Params
+pub mod Types
+pub mod WellFormed
