@@ -14,7 +14,7 @@ mod single;
 pub use aggregate::{all_true, any_true, count, greatest, is_true, least, sum};
 pub use cut::{limit_of, section};
 pub use items::{all_values, faults_alone, first_fault, has_fault, one_item, values};
-pub use occurrence::{distinct, has_repeat};
+pub use occurrence::{backward, distinct, has_repeat};
 pub use order::{Absent, Direction, KeyOrder, Keyed, compare_keys, in_order, keyless};
 pub use param::Param;
 pub use same::Same;

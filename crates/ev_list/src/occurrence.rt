@@ -32,7 +32,7 @@ pub fn has_repeat<T: Same>(items: &[T]) -> bool
 }
 
 /// The elements from the last to the first, so that they can be taken out in their order.
-pub(crate) fn backward<T: Drop>(alloc: Global, items: List<T>) -> Result<Vec<T>, AllocError>
+pub fn backward<T: Drop>(alloc: Global, items: List<T>) -> Result<Vec<T>, AllocError>
     ensures { IfOk result (λ v. v.items ≡ reverse items) }
 {
     let mut left = items;

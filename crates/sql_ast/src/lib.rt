@@ -1,11 +1,13 @@
 //! The trees of SQL statements, and the catalog that they are read over.
 #![tactic(auto)]
 
+mod args;
 mod catalog;
 mod expression;
 mod select;
 mod ty;
 
+pub use args::params;
 pub use catalog::{Catalog, TableShape, Typed};
 pub use expression::{Binary, BinaryOp, Case, Function, SqlExpr, UnaryOp};
 pub use select::{Body, Column, Core, FromItem, Key, MAX_NESTING, Select, Stmt};
