@@ -5,6 +5,8 @@ mod arrange;
 mod engine;
 mod row;
 mod run;
+#[cfg(test)]
+mod tests;
 mod turn;
 
 pub use run::{ExecError, exec};
