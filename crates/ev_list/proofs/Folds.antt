@@ -2,7 +2,6 @@
 use Rattle.std.proofs.Common.{◌≡◌, List, [], ◌∷◌, ◌++◌, None, refl, sym, ap, ◌∙◌}
 use Rattle.ev_value.specs.declared.value.Val.{Val}
 use Rattle.ev_list.specs.Aggregate.{with_rest, lesser, greater, least, greatest}
-use Rattle.ev_list.specs.Order.{placed, in_order}
 use Rattle.ev_list.specs.declared.order.KeyOrder.{KeyOrder}
 use Rattle.ev_list.specs.declared.order.Keyed.{Keyed}
 
@@ -29,7 +28,3 @@ least_onto (v ∷ vs) = ap (with_rest lesser v) (least_onto vs)
 pub greatest_onto : (vs : List Val) → onto (with_rest greater) vs None ≡ greatest vs
 greatest_onto [] = refl
 greatest_onto (v ∷ vs) = ap (with_rest greater v) (greatest_onto vs)
-
-pub in_order_onto : {A : Type 0} (ks : List KeyOrder) (xs : List (Keyed A)) → onto (placed ks) xs [] ≡ in_order ks xs
-in_order_onto ks [] = refl
-in_order_onto ks (x ∷ xs) = ap (placed ks x) (in_order_onto ks xs)

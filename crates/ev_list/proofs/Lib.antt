@@ -1,5 +1,5 @@
 pub mod Folds
 pub mod ItemTurns
-pub mod Keys
 pub mod Occurrences
+pub mod OrderLaws
 pub mod Sums

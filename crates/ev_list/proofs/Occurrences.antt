@@ -1,7 +1,8 @@
 -- First occurrences, one after the other.
 use Rattle.std.proofs.Common.{◌≡◌, ◌↔◌, List, [], ◌∷◌, ◌++◌, Bool, true, false, not, ◌||◌, cond, filter, refl, sym, ap, ◌∙◌, subst, append_assoc}
 use Rattle.std.specs.List.{list_any}
-use Rattle.ev_list.specs.Occurrence.{without, distinct}
+use Rattle.ev_list.specs.Laws.{KeepsFirstOccurrences}
+use Rattle.ev_list.specs.Occurrence.{without, distinct, has_repeat}
 
 module _ {A : Type 0} (same : A → A → Bool) where
   -- the elements that are none of those seen
@@ -74,3 +75,70 @@ module _ {A : Type 0} (same : A → A → Bool) where
         ∙ ap (λ l. seen ++ x ∷ l) (sym (filter_both (λ y. not (list_any (same y) seen)) (λ y. not (same x y)) (λ y. not (list_any (same y) (seen ++ x ∷ [])))
         (λ y. ap not (any_more (same y) seen x) ∙ or_not (list_any (same y) seen) (same y x) ∙ ap (λ b. cond (not b) (not (list_any (same y) seen)) false) (turned y x)) (distinct same xs)))
         ∙ ap (λ l. seen ++ l) (sym (ap (λ b. cond (not b) (x ∷ unseen seen (without same x (distinct same xs))) (unseen seen (without same x (distinct same xs)))) new)) ∙ is
+
+-- ---- the laws of first occurrences
+
+module _ {A : Type 0} (same : A → A → Bool) (exact : (x y : A) → (same x y ≡ true) ↔ (x ≡ y)) where
+  filter_append : (p : A → Bool) (xs ys : List A) → filter p (xs ++ ys) ≡ filter p xs ++ filter p ys
+  filter_append p [] ys = refl
+  filter_append p (x ∷ xs) ys = by_case (filter_append p xs ys) (p x)
+    where
+      by_case : filter p (xs ++ ys) ≡ filter p xs ++ filter p ys → (b : Bool) → cond b (x ∷ filter p (xs ++ ys)) (filter p (xs ++ ys)) ≡ cond b (x ∷ filter p xs) (filter p xs) ++ filter p ys
+      by_case e true = ap (λ l. x ∷ l) e
+      by_case e false = e
+
+  last_left : (p : A → Bool) (a : Bool) (x : A) → filter p (cond a [] (x ∷ [])) ≡ cond a [] (cond (p x) (x ∷ []) [])
+  last_left p true x = refl
+  last_left p false x = refl
+
+  or_else : (a b : Bool) (l : List A) → cond a [] (cond (not b) l []) ≡ cond (b || a) [] l
+  or_else true true l = refl
+  or_else true false l = refl
+  or_else false true l = refl
+  or_else false false l = refl
+
+  -- the last element is kept where it is none of those before
+  pub more_kept : (xs : List A) (x : A) → distinct same (xs ++ x ∷ []) ≡ distinct same xs ++ cond (list_any (same x) xs) [] (x ∷ [])
+  more_kept [] x = refl
+  more_kept (y ∷ ys) x =
+      ap (λ l. y ∷ l) (ap (without same y) (more_kept ys x) ∙ filter_append (λ z. not (same y z)) (distinct same ys) (cond (list_any (same x) ys) [] (x ∷ []))
+      ∙ ap (λ l. without same y (distinct same ys) ++ l) (last_left (λ z. not (same y z)) (list_any (same x) ys) x ∙ or_else (list_any (same x) ys) (same y x) (x ∷ [])
+      ∙ ap (λ b. cond (b || list_any (same x) ys) [] (x ∷ [])) (turned same exact y x)))
+
+  -- what is taken away is not there
+  none_left : (p : A → Bool) (xs : List A) → list_any p (filter (λ y. not (p y)) xs) ≡ false
+  none_left p [] = refl
+  none_left p (x ∷ xs) = by_case (none_left p xs) (p x) refl
+    where
+      by_case : list_any p (filter (λ y. not (p y)) xs) ≡ false → (b : Bool) → p x ≡ b → list_any p (cond (not b) (x ∷ filter (λ y. not (p y)) xs) (filter (λ y. not (p y)) xs)) ≡ false
+      by_case e true h = e
+      by_case e false h = ap (λ b. b || list_any p (filter (λ y. not (p y)) xs)) h ∙ e
+
+  or_parts : (a b : Bool) → (a || b) ≡ false → (a ≡ false) × (b ≡ false)
+  or_parts true b h = cc
+  or_parts false b h = (refl, h)
+
+  any_less : (p q : A → Bool) (xs : List A) → list_any p xs ≡ false → list_any p (filter q xs) ≡ false
+  any_less p q [] h = refl
+  any_less p q (x ∷ xs) h = by_case (any_less p q xs (or_parts (p x) (list_any p xs) h).1) (q x)
+    where
+      by_case : list_any p (filter q xs) ≡ false → (b : Bool) → list_any p (cond b (x ∷ filter q xs) (filter q xs)) ≡ false
+      by_case e true = ap (λ b. b || list_any p (filter q xs)) (or_parts (p x) (list_any p xs) h).0 ∙ e
+      by_case e false = e
+
+  repeat_less : (q : A → Bool) (xs : List A) → has_repeat same xs ≡ false → has_repeat same (filter q xs) ≡ false
+  repeat_less q [] h = refl
+  repeat_less q (x ∷ xs) h =
+      let parts : (list_any (same x) xs ≡ false) × (has_repeat same xs ≡ false) = or_parts (list_any (same x) xs) (has_repeat same xs) h in
+      by_case (any_less (same x) q xs parts.0) (repeat_less q xs parts.1) (q x)
+    where
+      by_case : list_any (same x) (filter q xs) ≡ false → has_repeat same (filter q xs) ≡ false → (b : Bool) → has_repeat same (cond b (x ∷ filter q xs) (filter q xs)) ≡ false
+      by_case e f true = ap (λ b. b || has_repeat same (filter q xs)) e ∙ f
+      by_case e f false = f
+
+  no_repeat : (xs : List A) → has_repeat same (distinct same xs) ≡ false
+  no_repeat [] = refl
+  no_repeat (x ∷ xs) = ap (λ b. b || has_repeat same (without same x (distinct same xs))) (none_left (same x) (distinct same xs)) ∙ repeat_less (λ y. not (same x y)) (distinct same xs) (no_repeat xs)
+
+  pub keeps_first : KeepsFirstOccurrences same
+  keeps_first = record { of_none = refl; of_more = more_kept; once = no_repeat }

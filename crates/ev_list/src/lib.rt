@@ -5,6 +5,7 @@
 mod aggregate;
 mod cut;
 mod items;
+mod laws;
 mod occurrence;
 mod order;
 mod param;
@@ -14,6 +15,7 @@ mod single;
 pub use aggregate::{all_true, any_true, count, greatest, is_true, least, sum};
 pub use cut::{limit_of, section};
 pub use items::{all_values, faults_alone, first_fault, has_fault, one_item, values};
+pub use laws::{first_occurrences_are_kept, sort_is_stable};
 pub use occurrence::{backward, distinct, has_repeat};
 pub use order::{Absent, Direction, KeyOrder, Keyed, compare_keys, in_order, keyless};
 pub use param::Param;

@@ -1,6 +1,6 @@
 //! Orders by keys.
-ghost use Rattle.std.specs.Prelude.{◌≡◌, ◌≤◌, ◌∷◌, ◌++◌, IfOk, length, take, drop};
-ghost use Rattle.ev_list.specs.Order.{key_cmp, keys_cmp, absent_cmp, directed as directed_cmp, placed as placed_by, in_order as in_order_by, keyless as keyless_of};
+ghost use Rattle.std.specs.Prelude.{◌≡◌, IfOk, option_copied};
+ghost use Rattle.ev_list.specs.Order.{key_cmp, keys_cmp, absent_cmp, directed as directed_cmp, first_key as first_key_of, later_keys as later_keys_of, in_order as in_order_by, keyless as keyless_of};
 
 use crate::occurrence::backward;
 use ev_value::{List, Val, cmp_val};
@@ -35,8 +35,8 @@ pub struct Keyed<T> {
     pub value: T,
 }
 
-fn compare_key(order: KeyOrder, left: &Option<Val>, right: &Option<Val>) -> Ordering
-    ensures { result ≡ key_cmp order left.now right.now }
+fn compare_key(order: KeyOrder, left: Option<&Val>, right: Option<&Val>) -> Ordering
+    ensures { result ≡ key_cmp order (option_copied left.entry) (option_copied right.entry) }
 {
     match (left, right) {
         (None, None) => Ordering::Equal,
@@ -64,37 +64,38 @@ fn directed(direction: Direction, order: Ordering) -> Ordering
     }
 }
 
-/// How two elements are ordered by their keys: by the first key that tells them apart.
-#[tactic(auto, using(crate::proofs::Keys::no_orders, crate::proofs::Keys::no_left, crate::proofs::Keys::no_right))]
+/// The first key, if it has a value.
+fn first_key(keys: &[Option<Val>]) -> Option<&Val>
+    ensures { option_copied result ≡ first_key_of keys.now }
+{
+    match keys {
+        [] => None,
+        [None, ..] => None,
+        [Some(value), ..] => Some(value),
+    }
+}
+
+/// The keys behind the first.
+fn later_keys(keys: &[Option<Val>]) -> &[Option<Val>]
+    ensures { result.now ≡ later_keys_of keys.now }
+{
+    match keys {
+        [] => keys,
+        [_, more @ ..] => more,
+    }
+}
+
+/// How two elements are ordered by their keys: by the first key that tells them apart. A key that is missing is absent.
 pub fn compare_keys(orders: &[KeyOrder], left: &[Option<Val>], right: &[Option<Val>]) -> Ordering
     ensures { result ≡ keys_cmp orders.now left.now right.now }
 {
     let [order, more @ ..] = orders else {
         return Ordering::Equal;
     };
-    let [a, lefts @ ..] = left else {
-        return Ordering::Equal;
-    };
-    let [b, rights @ ..] = right else {
-        return Ordering::Equal;
-    };
-    match compare_key(*order, a, b) {
-        Ordering::Equal => compare_keys(more, lefts, rights),
+    match compare_key(*order, first_key(left), first_key(right)) {
+        Ordering::Equal => compare_keys(more, later_keys(left), later_keys(right)),
         other => other,
     }
-}
-
-/// How many elements in order an earlier one stands behind.
-fn place<T>(orders: &[KeyOrder], item: &Keyed<T>, sorted: &[Keyed<T>]) -> usize
-    ensures within { result ≤ length sorted.now }
-    ensures placed { take result sorted.now ++ item.now ∷ drop result sorted.now ≡ placed_by orders.now item.now sorted.now }
-{
-    for (i, other) in sorted.iter().enumerate() {
-        if !compare_keys(orders, item.keys.as_slice(), other.keys.as_slice()).is_gt() {
-            return i;
-        }
-    }
-    sorted.len()
 }
 
 /// The elements in order; those whose keys are equal stay as they stood.
@@ -105,12 +106,9 @@ pub fn in_order<T: Drop>(
 ) -> Result<List<Keyed<T>>, AllocError>
     ensures { IfOk result (λ l. l ≡ in_order_by orders.now items) }
 {
-    let mut left = items;
-    let mut sorted = Vec::new(alloc);
-    while let Some(item) = left.pop() {
-        let at = place(orders, &item, sorted.as_slice());
-        sorted.insert(at, item)?;
-    }
+    let mut sorted = backward(alloc, items)?;
+    sorted.reverse();
+    sorted.sort_by(|a, b| compare_keys(orders, a.keys.as_slice(), b.keys.as_slice()))?;
     Ok(List::from_vec(sorted))
 }
 

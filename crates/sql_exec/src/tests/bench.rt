@@ -226,11 +226,15 @@ impl Bench {
             }
             Step::Lateral(alias) => {
                 let alias = Text::from_str(self.alloc, alias)?;
-                self.selects.pop().map(|select| FromItem::Lateral(select, alias))
+                self.selects
+                    .pop()
+                    .map(|select| FromItem::Lateral(select, alias))
             }
             Step::LeftLateral(alias) => {
                 let alias = Text::from_str(self.alloc, alias)?;
-                self.selects.pop().map(|select| FromItem::LeftLateral(select, alias))
+                self.selects
+                    .pop()
+                    .map(|select| FromItem::LeftLateral(select, alias))
             }
             Step::Unnest(alias) => {
                 let alias = Text::from_str(self.alloc, alias)?;

@@ -1,8 +1,8 @@
 //! Rows as text: cells with a comma between them, rows with a semicolon behind each.
 
-use crate::{ExecError, exec};
 use crate::tests::bench::{Step, statement};
 use crate::tests::world::{arguments, tables};
+use crate::{ExecError, exec};
 use ev_value::Val;
 use sql_table::{Cell, Row};
 use std::alloc::{AllocError, Global};

@@ -18,7 +18,15 @@ enum Datum {
 use Datum::{I, N, T, U};
 
 static USERS: [Datum; 9] = [
-    U(1), I(30), T("Ann"), U(2), N, T("Bob"), U(3), I(7), T("Cid"),
+    U(1),
+    I(30),
+    T("Ann"),
+    U(2),
+    N,
+    T("Bob"),
+    U(3),
+    I(7),
+    T("Cid"),
 ];
 
 static FRIENDS: [Datum; 9] = [U(1), U(2), I(5), U(2), U(1), I(1), U(2), U(3), N];

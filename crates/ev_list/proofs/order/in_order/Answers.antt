@@ -1,13 +1,14 @@
-use Rattle.std.proofs.Common.{◌≡◌, ap, ◌∙◌, subst}
-use Rattle.std.specs.List.{insert}
-use Rattle.ev_list.specs.Order.{placed}
-use Rattle.ev_list.proofs.Folds.{onto, onto_turn, in_order_onto}
+use Rattle.std.proofs.Common.{◌≡◌, ap, ◌∙◌, rules, reverse}
+use Rattle.std.proofs.lemmas.List.{reverse-reverse}
+use Rattle.ev_list.specs.Order.{in_order}
+use Rattle.ev_list.proofs.OrderLaws.{compares, less, weak, sorted_is}
 use Rattle.ev_list.proofs.order.in_order.Goals as goal
 
-pub loop-item-init : goal.loop-item-init
-loop-item-init g c = ap (onto (placed c.args.orders.now) c.args.items) c.new-sorted.ensures.items ∙ in_order_onto c.args.orders.now c.args.items
-
-pub loop-item-preserved : goal.loop-item-preserved
-loop-item-preserved g c =
-    let in_place = subst (λ l. insert l c.place-at.result c.in-Some.item ≡ placed c.args.orders.now c.in-Some.item l) c.as_slice.ensures.value c.place-at.ensures.placed in
-    onto_turn (placed c.args.orders.now) _ _ c.loop-item.left c.pop.new.self c.in-Some.item c.loop-item.sorted.items c.loop-item.invariant c.in-Some.ensures (c.in_ok-insert.ensures.items ∙ in_place)
+pub returns : goal.returns
+returns g c =
+    let items : c.reverse.new.self.items ≡ c.args.items = c.reverse.ensures.items ∙ ap reverse c.in_ok-sorted.ensures ∙ reverse-reverse c.args.items in
+    c.from_vec.ensures
+    ∙ sorted_is c.args.orders.now c.reverse.new.self.items c.sort_by.new.self.items
+    (c.in_ok-sort_by.ensures.sorted (less c.args.orders.now) (weak c.args.orders.now) (compares c.args.orders.now (λ a r q k. search rules)))
+    (c.in_ok-sort_by.ensures.stable (less c.args.orders.now) (weak c.args.orders.now) (compares c.args.orders.now (λ a r q k. search rules)))
+    ∙ ap (in_order c.args.orders.now) items
