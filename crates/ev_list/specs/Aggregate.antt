@@ -1,5 +1,5 @@
 -- What is made of all elements of a list.
-use Rattle.std.specs.Prelude.{Bool, true, false, List, [], ◌∷◌, length, ℤ, pos, ◌+ℤ◌, Option, Some, None, if◌then◌else◌}
+use Rattle.std.specs.Prelude.{Bool, false, List, [], ◌∷◌, length, ℤ, pos, ◌+ℤ◌, Option, Some, None, if◌then◌else◌}
 use Rattle.std.specs.List.{list_any, list_all}
 use Rattle.std.specs.Ordering.{is_gt, is_lt}
 use Rattle.ev_value.specs.Operator.{int_item, bool_item}

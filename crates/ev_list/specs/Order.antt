@@ -29,10 +29,19 @@ key_cmp k None (Some w) = absent_cmp k.absent
 key_cmp k (Some v) None = ordering_reverse (absent_cmp k.absent)
 key_cmp k (Some v) (Some w) = directed k.direction (val_cmp v w)
 
+-- the first key, and the keys behind it; a key that is missing is absent
+abbrev pub first_key : List (Option Val) → Option Val
+first_key [] = None
+first_key (v ∷ vs) = v
+
+abbrev pub later_keys : List (Option Val) → List (Option Val)
+later_keys [] = []
+later_keys (v ∷ vs) = vs
+
 -- how two elements are ordered by their keys: by the first key that tells them apart
 abbrev pub keys_cmp : List KeyOrder → List (Option Val) → List (Option Val) → Ordering
-keys_cmp (k ∷ ks) (v ∷ vs) (w ∷ ws) = ordering_then (key_cmp k v w) (keys_cmp ks vs ws)
-keys_cmp _ _ _ = Equal
+keys_cmp [] vs ws = Equal
+keys_cmp (k ∷ ks) vs ws = ordering_then (key_cmp k (first_key vs) (first_key ws)) (keys_cmp ks (later_keys vs) (later_keys ws))
 
 -- whether an element stands behind another that came later
 abbrev pub is_behind : {A : Type 0} → List KeyOrder → Keyed A → Keyed A → Bool

@@ -1,9 +1,8 @@
 -- What is asserted of a list.
-use Rattle.std.specs.Prelude.{Bool, true, false, List, [], ◌∷◌, Option, Some, None, if◌then◌else◌}
-use Rattle.std.specs.declared.cmp.Ordering.{Ordering}
+use Rattle.std.specs.Prelude.{Bool, List, [], ◌∷◌, Option, Some, None, if◌then◌else◌}
 use Rattle.ev_value.specs.declared.item.Fault.{Fault}
 use Rattle.ev_value.specs.declared.item.Fault.TheVariants as fault
-use Rattle.ev_list.specs.Distinct.{has_repeat}
+use Rattle.ev_list.specs.Occurrence.{has_repeat}
 
 -- the fault of a list that is to have at most one element
 abbrev pub single_fault : {A : Type 0} → List A → Option Fault
@@ -13,8 +12,8 @@ single_fault _ = None
 -- the fault of a list that is to have an element
 abbrev pub exists_fault : {A : Type 0} → List A → Option Fault
 exists_fault [] = Some fault.AssertExists
-exists_fault _ = None
+exists_fault (x ∷ more) = None
 
 -- the fault of a list that is to have no element twice
-abbrev pub distinct_fault : {A : Type 0} → (A → A → Ordering) → List A → Option Fault
-distinct_fault order xs = if has_repeat order xs then Some fault.AssertDistinct else None
+abbrev pub distinct_fault : {A : Type 0} → (A → A → Bool) → List A → Option Fault
+distinct_fault same xs = if has_repeat same xs then Some fault.AssertDistinct else None

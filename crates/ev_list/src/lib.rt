@@ -2,8 +2,22 @@
 //! what is made of all elements.
 #![tactic(auto)]
 
+mod aggregate;
+mod cut;
+mod items;
+mod laws;
+mod occurrence;
 mod order;
 mod param;
+mod same;
+mod single;
 
-pub use order::{Absent, Direction, KeyOrder, Keyed};
+pub use aggregate::{all_true, any_true, count, greatest, is_true, least, sum};
+pub use cut::{limit_of, section};
+pub use items::{all_values, faults_alone, first_fault, has_fault, one_item, values};
+pub use laws::{first_occurrences_are_kept, sort_is_stable};
+pub use occurrence::{backward, distinct, has_repeat};
+pub use order::{Absent, Direction, KeyOrder, Keyed, compare_keys, in_order, keyless};
 pub use param::Param;
+pub use same::Same;
+pub use single::{distinct_fault, exists_fault, single_fault};

@@ -1,12 +1,14 @@
 //! The trees of SQL statements, and the catalog that they are read over.
 #![tactic(auto)]
 
+mod args;
 mod catalog;
 mod expression;
 mod select;
 mod ty;
 
+pub use args::params;
 pub use catalog::{Catalog, TableShape, Typed};
 pub use expression::{Binary, BinaryOp, Case, Function, SqlExpr, UnaryOp};
-pub use select::{Body, Column, Core, FromItem, Key, Select, Stmt};
+pub use select::{Body, Column, Core, FromItem, Key, MAX_NESTING, Select, Stmt};
 pub use ty::SqlTy;

@@ -4,6 +4,9 @@ use crate::expression::SqlExpr;
 use ev_list::Absent;
 use ev_value::{Boxed, List, Text};
 
+/// The greatest height of a statement's tree.
+pub const MAX_NESTING: u32 = 800;
+
 /// A statement.
 #[derive(Drop)]
 pub struct Stmt {

@@ -1,0 +1,5 @@
+pub mod Folds
+pub mod ItemTurns
+pub mod Occurrences
+pub mod OrderLaws
+pub mod Sums

@@ -1,0 +1,5 @@
+pub mod Nesting
+pub mod Params
+pub mod ParamLists
+pub mod Types
+pub mod WellFormed

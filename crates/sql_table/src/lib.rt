@@ -1,0 +1,15 @@
+//! Tables and cells of SQL, operators on cells, and what a statement means.
+#![tactic(auto)]
+
+mod cell;
+mod frame;
+mod operators;
+mod same;
+mod shared;
+mod tables;
+
+pub use cell::{Cell, Row, Rows, copied_cells};
+pub use frame::{Frame, Scope, column, entry};
+pub use operators::{binary, call, cast_cell, elements, holds, part, unary, value_of};
+pub use shared::Shared;
+pub use tables::{Table, Tables, column_names};
