@@ -13,13 +13,6 @@ use Rattle.eql_sem.specs.declared.binding.Name.{Name}
 use Rattle.eql_sem.specs.declared.binding.Name.TheVariants as name
 use Rattle.eql_sem.specs.declared.binding.Bound.{Bound}
 use Rattle.eql_sem.specs.declared.binding.Bound.TheVariants as bound
-use Rattle.eql_sem.specs.declared.binding.Binding.{Binding}
-
-abbrev pub names_of : List Binding → List Name
-names_of bs = map (λ b. b.name) bs
-
-abbrev pub bounds_of : List Binding → List Bound
-bounds_of bs = map (λ b. b.to) bs
 
 abbrev pub name_eq : Name → Name → Bool
 name_eq (name.Prefix p) (name.Prefix q) = path_eq p q

@@ -1,7 +1,11 @@
 pub mod World
 pub mod Bindings
 pub mod Forms
+pub mod Items
 pub mod Operations
 pub mod Scopes
 pub mod Selects
 pub mod Meaning
+pub mod Parts
+pub mod Recursion
+pub mod Bases

@@ -31,7 +31,7 @@ use Rattle.eql_sem.specs.declared.form.FormField.{FormField}
 use Rattle.eql_sem.specs.declared.form.Formed.{Formed}
 use Rattle.eql_sem.specs.Bindings.{paths_of, pick, within, given}
 use Rattle.eql_sem.specs.Forms.{bare, strip, dress, subject_of}
-use Rattle.eql_sem.specs.Operations.{operated, cast_to, tupled, optional_equal, in_set, optional, of_set, coalesced, chosen}
+use Rattle.eql_sem.specs.Operations.{gathered, operated, cast_to, tupled, optional_equal, in_set, optional, of_set, coalesced, chosen}
 use Rattle.eql_sem.specs.Scopes.{Gives, Bases, extensions, scope}
 use Rattle.eql_sem.specs.Selects.{Row, first_of, when, finished}
 use Rattle.eql_sem.specs.World.{World}
@@ -88,13 +88,17 @@ module _ (w : World) where
   abbrev pub items_of : Expr → Bases → Gives Formed → Finishes → Gives Formed
   items_of x bases gives finishes = scope w (direct x false) (all x) bases (λ ns b. bind (gives ns b) (made finishes ns b))
 
+  -- a field with the forms of its items
+  abbrev pub field_of : List ℕ → List (Item Formed) → List (Item FormField)
+  field_of n xs = collect (λ is. one (record { name = n; forms = map (λ i. i.form) is })) xs
+
   -- The rows of a select: each item of the subject for which the condition has a true item, with its keys. The subject
   -- is bound to the item there.
   abbrev pub rows_of : ℕ → Gives Formed → Gives Val → Gives (List (Option Val)) → Gives (Keyed Row)
   rows_of k gives condition keys ns b =
       bind (gives ns b) (λ x.
-        let ns' = name.Prefix (subject k) ∷ ns in let b' = bound.One x.value ∷ b in
-        when (condition ns' b') (bind (keys ns' b') (λ ks. one (record { keys = ks; value = record { now = b; item = x } }))))
+      let ns' = name.Prefix (subject k) ∷ ns in let b' = bound.One x.value ∷ b in
+      when (condition ns' b') (bind (keys ns' b') (λ ks. one (record { keys = ks; value = record { now = b; item = x } }))))
 
   unfoldable mutual
     -- The items of an expression, each with its form so far: shapes outside of statements are made by `finish`.
@@ -124,14 +128,14 @@ module _ (w : World) where
     items (e.Shaped' _ _ (more_of-Expr x end_of-Expr) _ _ elements) ns b = dress (strip (items x ns b))
     items (e.Select' _ _ aliases (Select' _ (more_of-Expr x end_of-Expr) k filter _ keys offset limit)) ns b =
         with_aliases aliases (λ ms a.
-          let fs = factored (direct x false) (all x ++ all_of_clause filter ++ all_of_keys keys) (paths_of ms) in
-          finished (is_cut keys offset limit) (clause offset ms a) (clause limit ms a) (orders_of keys)
-            (bind (extensions w (base_among (bases x)) fs ms a) (rows_of k (items x) (condition filter) (keys_of keys) (within fs ms)))
-            (λ row. made (finish x) (within fs ms) row.now row.item)) ns b
+        let fs = factored (direct x false) (all x ++ all_of_clause filter ++ all_of_keys keys) (paths_of ms) in
+        finished (is_cut keys offset limit) (clause offset ms a) (clause limit ms a) (orders_of keys)
+        (bind (extensions w (base_among (bases x)) fs ms a) (rows_of k (items x) (condition filter) (λ ns' b'. gathered (key_lists keys ns' b')) (within fs ms)))
+        (λ row. made (finish x) (within fs ms) row.now row.item)) ns b
     items (e.For' _ _ aliases k _ _ (more_of-Expr x end_of-Expr) _ _ (more_of-Expr y end_of-Expr)) ns b =
         with_aliases aliases (λ ms a.
-          bind (values_of x (base_among (bases x)) (items x) ms a) (λ v.
-            items_of y (base_among (bases y)) (items y) (finish y) (name.Prefix (variable k) ∷ ms) (bound.One v ∷ a))) ns b
+        bind (values_of x (base_among (bases x)) (items x) ms a) (λ v.
+        items_of y (base_among (bases y)) (items y) (finish y) (name.Prefix (variable k) ∷ ms) (bound.One v ∷ a))) ns b
 
     -- the lists of several expressions
     pub lists : {m : _} → Row_of-Expr m → List Name → List Bound → List (List (Item Formed))
@@ -166,22 +170,20 @@ module _ (w : World) where
     -- What becomes of an item's form in the end: shapes are made, those in components too. Those of a statement are
     -- made already.
     pub finish : Expr → Finishes
-    finish (e.Tuple' _ _ parts) ns b (form.Tuple' _ forms) = bind (finish_all parts ns b forms) (λ fs. one (made_form.Tuple fs))
+    finish (e.Tuple' _ _ parts) ns b (form.Tuple' _ forms) = bind (gathered (finished_parts parts ns b forms)) (λ fs. one (made_form.Tuple fs))
     finish (e.Shaped' _ _ x k _ elements) ns b f =
-        bind (fields elements (name.Prefix (subject k) ∷ ns) (subject_of f ∷ b)) (λ fs. one (made_form.Shape fs))
+        bind (gathered (field_lists elements (name.Prefix (subject k) ∷ ns) (subject_of f ∷ b))) (λ fs. one (made_form.Shape fs))
     finish _ ns b f = one f
 
-    pub finish_all : {m n : _} → Row_of-Expr m → List Name → List Bound → Row_of-Form n → List (Item (List Form))
-    finish_all (more_of-Expr x rest) ns b (more_of-Form f fs) =
-        both (finish x ns b f) (finish_all rest ns b fs) (λ y ys. one (y ∷ ys))
-    finish_all _ ns b _ = one []
+    pub finished_parts : {m n : _} → Row_of-Expr m → List Name → List Bound → Row_of-Form n → List (List (Item Form))
+    finished_parts (more_of-Expr x rest) ns b (more_of-Form f fs) = finish x ns b f ∷ finished_parts rest ns b fs
+    finished_parts _ ns b _ = []
 
-    -- the fields of a shape, each with the forms of its scope's items; the faults of all fields where there are some
-    pub fields : {m : _} → Row_of-Element m → Gives (List FormField)
-    fields end_of-Element ns b = one []
-    fields (more_of-Element _ n _ _ _ _ _ _ (more_of-Expr x end_of-Expr) rest) ns b =
-        both (collect (λ xs. one (map (λ i. i.form) xs)) (items_of x (base_among (bases x)) (items x) (finish x) ns b)) (fields rest ns b)
-          (λ forms more. one (record { name = n; forms = forms } ∷ more))
+    -- the fields of a shape, each with the forms of its scope's items, or with that scope's faults
+    pub field_lists : {m : _} → Row_of-Element m → List Name → List Bound → List (List (Item FormField))
+    field_lists end_of-Element ns b = []
+    field_lists (more_of-Element _ n _ _ _ _ _ _ (more_of-Expr x end_of-Expr) rest) ns b =
+        field_of n (items_of x (base_among (bases x)) (items x) (finish x) ns b) ∷ field_lists rest ns b
 
     -- the list of an offset or a limit, which may be absent
     pub clause : Held-Select-filter → Gives Val
@@ -193,10 +195,10 @@ module _ (w : World) where
     condition None' ns b = one (val.Bool true)
     condition (Some' _ one_scope) ns b = values_of_all one_scope ns b
 
-    -- the keys of a row, each with its first value, if it has one; the faults of all keys where there are some
-    pub keys_of : {m : _} → Row_of-Key m → Gives (List (Option Val))
-    keys_of end_of-Key ns b = one []
-    keys_of (more_of-Key k rest) ns b = both (first_of (key_list k ns b)) (keys_of rest ns b) (λ x xs. one (x ∷ xs))
+    -- the keys of a row, each with its first value, if it has one, or with its faults
+    pub key_lists : {m : _} → Row_of-Key m → List Name → List Bound → List (List (Item (Option Val)))
+    key_lists end_of-Key ns b = []
+    key_lists (more_of-Key k rest) ns b = first_of (key_list k ns b) ∷ key_lists rest ns b
 
     pub key_list : key.Key → Gives Val
     key_list (key.Ascending' _ _ _ (more_of-Expr x end_of-Expr)) ns b = values_of x (base_among (bases x)) (items x) ns b

@@ -2,7 +2,7 @@
 use Rattle.std.specs.Prelude.{Bool, true, false, not, List, [], ◌∷◌, map, Option, Some, None, if◌then◌else◌}
 use Rattle.std.specs.List.{list_any}
 use Rattle.std.specs.Ordering.{is_eq}
-use Rattle.ev_value.specs.Item.{bind, one, all_of, collect}
+use Rattle.ev_value.specs.Item.{bind, both, one, all_of, collect}
 use Rattle.ev_value.specs.Operator.{item_of_op, bool_item}
 use Rattle.ev_value.specs.Casts.{item_of_cast}
 use Rattle.ev_value.specs.Order.{val_cmp}
@@ -15,7 +15,7 @@ use Rattle.ev_value.specs.declared.value.Val.{Val}
 use Rattle.ev_value.specs.declared.value.Val as val
 use Rattle.ev_value.specs.declared.value.Val.TheVariants as made
 use Rattle.ev_list.specs.Aggregate.{count_item, sum_item, least, greatest, any_item, all_item, is_true}
-use Rattle.ev_list.specs.Distinct.{distinct}
+use Rattle.ev_list.specs.Occurrence.{distinct}
 use Rattle.ev_list.specs.Single.{single_fault, exists_fault, distinct_fault}
 use Rattle.core_ir.specs.declared.tree.SetFunction.{SetFunction}
 use Rattle.core_ir.specs.declared.tree.SetFunction.TheVariants as function
@@ -29,6 +29,11 @@ abbrev pub product : {A : Type 0} → List (List (Item A)) → List (Item (List 
 product [] = one []
 product (xs ∷ more) = bind xs (λ x. bind (product more) (λ rest. one (x ∷ rest)))
 
+-- One value of each list, the last list fastest; the faults of all lists where there are some.
+abbrev pub gathered : {A : Type 0} → List (List (Item A)) → List (Item (List A))
+gathered [] = one []
+gathered (xs ∷ more) = both xs (gathered more) (λ x rest. one (x ∷ rest))
+
 -- an operator or a plain function
 abbrev pub operated : Op → List (List (Item Val)) → List (Item Val)
 operated op operands = bind (product operands) (λ vs. item_of_op op vs ∷ [])
@@ -36,10 +41,13 @@ operated op operands = bind (product operands) (λ vs. item_of_op op vs ∷ [])
 abbrev pub cast_to : ScalarTy → List (Item Val) → List (Item Val)
 cast_to ty xs = bind xs (λ v. item_of_cast ty v ∷ [])
 
--- the tuples of the components' values, each with the tuple of their forms
+-- the tuple of some values, with the tuple of their forms
+abbrev pub tuple_of : List Formed → Formed
+tuple_of xs = record { value = made.Tuple (map (λ x. x.value) xs); form = form.Tuple (map (λ x. x.form) xs) }
+
+-- the tuples of the components' items
 abbrev pub tupled : List (List (Item Formed)) → List (Item Formed)
-tupled components =
-    bind (product components) (λ xs. one (record { value = made.Tuple (map (λ x. x.value) xs); form = form.Tuple (map (λ x. x.form) xs) }))
+tupled components = bind (product components) (λ xs. one (tuple_of xs))
 
 -- the truth itself, or its opposite
 abbrev pub turned : Bool → Bool → Bool
@@ -59,14 +67,22 @@ same_place None None = true
 same_place (Some v) (Some w) = same v w
 same_place _ _ = false
 
+-- one place of the left operand against each of the right one
+abbrev pub equal_places : Bool → Option Val → List (Item (Option Val)) → List (Item Val)
+equal_places negated x right = bind right (λ y. bool_item (turned negated (same_place x y)) ∷ [])
+
 -- `?=` and `?!=`
 abbrev pub optional_equal : Bool → List (Item Val) → List (Item Val) → List (Item Val)
 optional_equal negated left right =
-    bind (or_empty left) (λ x. bind (or_empty right) (λ y. bool_item (turned negated (same_place x y)) ∷ []))
+    bind (or_empty left) (λ x. equal_places negated x (or_empty right))
+
+-- of each item whether it is among the values
+abbrev pub member_items : Bool → List (Item Val) → List Val → List (Item Val)
+member_items negated left vs = bind left (λ x. bool_item (turned negated (list_any (same x) vs)) ∷ [])
 
 -- `in` and `not in`: the faults of the set alone where it has some
 abbrev pub in_set : Bool → List (Item Val) → List (Item Val) → List (Item Val)
-in_set negated left set = collect (λ vs. bind left (λ x. bool_item (turned negated (list_any (same x) vs)) ∷ [])) set
+in_set negated left set = collect (member_items negated left) set
 
 -- a value where there is one
 abbrev pub optional : Option Val → List (Item Val)
@@ -91,10 +107,10 @@ of_values function.Max vs = optional (greatest vs)
 of_values function.Any vs = any_item vs ∷ []
 of_values function.All vs = all_item vs ∷ []
 of_values function.Exists vs = bool_item (not (is_empty vs)) ∷ []
-of_values function.Distinct vs = all_of (distinct val_cmp vs)
+of_values function.Distinct vs = all_of (distinct same vs)
 of_values function.AssertSingle vs = asserted (single_fault vs) vs
 of_values function.AssertExists vs = asserted (exists_fault vs) vs
-of_values function.AssertDistinct vs = asserted (distinct_fault val_cmp vs) vs
+of_values function.AssertDistinct vs = asserted (distinct_fault same vs) vs
 
 -- a function of a set: the faults of the set alone where it has some
 abbrev pub of_set : SetFunction → List (Item Val) → List (Item Val)

@@ -1,5 +1,5 @@
 -- How a scope binds its prefixes.
-use Rattle.std.specs.Prelude.{ℕ, ◌-◌, Bool, List, [], ◌∷◌, length, map, Option, Some, None}
+use Rattle.std.specs.Prelude.{ℕ, ◌-◌, slice_get, Bool, List, [], ◌∷◌, length, map, Option, Some, None}
 use Rattle.ev_value.specs.Item.{bind, one, all_of}
 use Rattle.ev_value.specs.declared.item.Item.{Item}
 use Rattle.ev_value.specs.declared.value.Val.{Val}
@@ -29,11 +29,14 @@ Gives X = List Name → List Bound → List (Item X)
 abbrev pub Bases : Type 0
 Bases = ℕ → Gives Val
 
+-- a link and the property that is asked of it
+abbrev pub property_of : Option Step → Option Step → Option (PtrId × List ℕ)
+property_of (Some (step.Link l)) (Some (step.LinkProp n)) = Some (l, n)
+property_of _ _ = None
+
 -- the link and the property's name at the end of a path that ends in a link property
 abbrev pub last_property : List Step → Option (PtrId × List ℕ)
-last_property [] = None
-last_property (step.Link l ∷ step.LinkProp n ∷ []) = Some (l, n)
-last_property (s ∷ more) = last_property more
+last_property steps = property_of (slice_get steps (length steps - 2)) (slice_get steps (length steps - 1))
 
 module _ (w : World) where
   -- the steps of a path, one after the other
@@ -49,20 +52,28 @@ module _ (w : World) where
   root_list bases (root.Var k) ns b = []
   root_list bases (root.Subject k) ns b = []
 
-  -- the steps from what was found to be bound; from a prefix that stands for nothing there is nothing
+  -- the steps from what a prefix stands for; from one that stands for nothing there is nothing
+  abbrev pub from_bound : Bound → List Step → List (Item Val)
+  from_bound (bound.One v) more = walk more (one v)
+  from_bound _ more = []
+
+  -- the steps from the longest bound prefix, or from the root
   abbrev pub from_nearest : Bases → Path → List Name → List Bound → Option (Bound × List Step) → List (Item Val)
   from_nearest bases p ns b None = walk p.steps (root_list bases p.root ns b)
-  from_nearest bases p ns b (Some (bound.One v, more)) = walk more (one v)
-  from_nearest bases p ns b (Some (_, more)) = []
+  from_nearest bases p ns b (Some (x, more)) = from_bound x more
 
   -- the property of a link between its bound source and its bound target
   abbrev pub property_list : PtrId → List ℕ → List (Item Val) → List (Item Val) → List (Item Val)
   property_list l n sources targets = bind sources (λ x. bind targets (λ y. all_of (w.link_property l n x y)))
 
+  -- the list of a path that ends in a link's property
+  abbrev pub end_list : Path → PtrId → List ℕ → Gives Val
+  end_list p l n ns b =
+      property_list l n (given (pick ns b (name.Prefix (prefix (length p.steps - 2) p)))) (given (pick ns b (name.Prefix (prefix (length p.steps - 1) p))))
+
   abbrev pub list_by_end : Bases → Path → List Name → List Bound → Option (PtrId × List ℕ) → List (Item Val)
   list_by_end bases p ns b None = from_nearest bases p ns b (nearest (length p.steps) ns b p)
-  list_by_end bases p ns b (Some (l, n)) =
-      property_list l n (given (pick ns b (name.Prefix (prefix (length p.steps - 2) p)))) (given (pick ns b (name.Prefix (prefix (length p.steps - 1) p))))
+  list_by_end bases p ns b (Some (l, n)) = end_list p l n ns b
 
   -- The list of a path: its steps from its longest bound proper prefix, or from its root's list.
   abbrev pub value_list : Bases → Path → Gives Val

@@ -36,5 +36,5 @@ abbrev pub finished : Bool → List (Item Val) → List (Item Val) → List KeyO
 finished false offset limit orders rows made = bind (bind rows (λ x. one x.value)) made
 finished true offset limit orders rows made =
     both (first_of offset) (first_of limit) (λ x y.
-      both (limit_of x ∷ []) (limit_of y ∷ []) (λ o l.
-        bind (collect (λ xs. all_of (section o l (keyless (in_order orders xs)))) rows) made))
+    both (limit_of x ∷ []) (limit_of y ∷ []) (λ o l.
+    bind (collect (λ xs. all_of (section o l (keyless (in_order orders xs)))) rows) made))

@@ -1,0 +1,10 @@
+use Rattle.std.proofs.Common.{◌≡◌, ◌++◌, drop}
+use Rattle.ev_value.specs.Item.{bind}
+use Rattle.eql_sem.specs.Forms.{strip}
+use Rattle.eql_sem.specs.Meaning.{items, bases, finish, made, base_among}
+use Rattle.eql_sem.specs.Parts.{extended_by, made_under}
+use Rattle.eql_sem.specs.Scopes.{extensions}
+use Rattle.eql_sem.proofs.evaluator.Evaluator.values_under.Given as goal
+
+abbrev pub invariant-loop-row : goal.invariant-loop-row
+invariant-loop-row g l = let w = g.W.World.means l.self.world.now in l.all ++ bind (drop l.row-index l.rows) (λ b. strip (items w l.body l.names b)) ≡ bind l.rows (λ b. strip (items w l.body l.names b))
