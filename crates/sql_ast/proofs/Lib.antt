@@ -1,1 +1,2 @@
 pub mod ArgForms
+pub mod ParamsInOrder

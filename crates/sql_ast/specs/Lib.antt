@@ -1,5 +1,6 @@
 pub mod Nesting
 pub mod Params
+pub mod ParamLaws
 pub mod ParamLists
 pub mod Types
 pub mod WellFormed

@@ -1,5 +1,6 @@
 //! The parameters of a statement.
 ghost use Rattle.std.specs.Prelude.{◌≡◌, [], ◌++◌, ◌≤◌, IfOk, IfSome, OnOk, fold, length};
+ghost use Rattle.sql_ast.specs.ParamLaws.{ParamsAreThoseThatOccur};
 ghost use Rattle.sql_ast.specs.ParamLists.{args_in_body, args_in_columns, args_in_exprs, args_in_items, args_in_keys, args_in_option, put_at};
 ghost use Rattle.sql_ast.specs.Params.{arg_of, args_of, args_of_core, args_of_cores_list, args_of_expr, args_of_item, args_of_key, params_of, with_param};
 
@@ -223,3 +224,8 @@ fn in_name_order(alloc: Global, args: List<Param>) -> Result<List<Param>, AllocE
     }
     Ok(List::from_vec(sorted))
 }
+
+/// The law of the parameters: their names rise by their bytes, so each stands once, and they are just those that occur.
+pub fn params_are_those_that_occur()
+    ensures { ParamsAreThoseThatOccur }
+{}

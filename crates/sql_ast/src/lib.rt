@@ -7,7 +7,7 @@ mod expression;
 mod select;
 mod ty;
 
-pub use args::params;
+pub use args::{params, params_are_those_that_occur};
 pub use catalog::{Catalog, TableShape, Typed};
 pub use expression::{Binary, BinaryOp, Case, Function, SqlExpr, UnaryOp};
 pub use select::{Body, Column, Core, FromItem, Key, MAX_NESTING, Select, Stmt};
