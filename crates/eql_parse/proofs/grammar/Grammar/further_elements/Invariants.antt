@@ -1,0 +1,10 @@
+use Rattle.std.proofs.Common.{◌≡◌, ◌-◌}
+use Rattle.eql_grammar.specs.Readers.{further_elements, next_element, inside}
+use Rattle.exact.specs.Reading.{loop_from, pure}
+use Rattle.eql_grammar.specs.Trees.{too_high}
+use Rattle.eql_parse.proofs.grammar.Grammar.further_elements.Given as goal
+
+abbrev pub invariant-loop-turn : goal.invariant-loop-turn
+invariant-loop-turn g l =
+    further_elements l.self.depth too_high (inside too_high l.self.depth) l.fn.first l.fn.tokens
+    ≡ loop_from pure (next_element l.self.depth too_high (inside too_high l.self.depth)) (l._turn-end - l._turn) l.all l.tokens

@@ -1,0 +1,4 @@
+pub mod Parts
+pub mod Nests
+pub mod Turns
+pub mod Promise
