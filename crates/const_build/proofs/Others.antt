@@ -14,7 +14,7 @@ pub built_none : (x : e.Expr) → ((at : Span) (digits : List ℕ) → x ≡ e.I
     → ((at : Span) (all : List e.Expr) → x ≡ e.Set at all → ⊥) → ((at : Span) (b : Binary) → x ≡ e.Binary at b → ⊥) → built x ≡ None
 unfolding built roll-Expr carrier.roll
 built_none x int group set binary = ap built (sym (roll-out-Expr x)) ∙ elim (out-Expr x) as (λ f. roll-Expr f ≡ x → built (roll-Expr f) ≡ None) [
-  layer.Int at digits ↦ λ same. absurd (int at digits (sym same ∙ sym (rolls-Int at digits)))
+  | layer.Int at digits ↦ λ same. absurd (int at digits (sym same ∙ sym (rolls-Int at digits)))
   | layer.Group at inner ↦ λ same. absurd (group at inner (sym same ∙ sym (rolls-Group at inner)))
   | layer.Set at all ↦ λ same. absurd (set at all (sym same ∙ sym (rolls-Set at all)))
   | layer.Binary at b ↦ λ same. absurd (binary at b (sym same ∙ sym (rolls-Binary at b)))

@@ -61,8 +61,11 @@ comes_faults files p fs v e c = subst (λ q. Comes files q v) e c
 judged_items : (files : List ℕ → Option (List ℕ)) (query : List ℕ) (tree : Expr) (v : Verdict (List ℕ)) → IsBuilt query tree
     → (faults (items tree) ≡ []) ⊎ ((f : Fault) × (more : List Fault) × (faults (items tree) ≡ f ∷ more)) → Comes files (answered (items tree)) v → Judges query v
 judged_items files query tree v built (inl clean) c =
-    inl (answer_text (values (items tree)), record { tree = tree; built = built; faultless = clean; written = refl },
-    comes_answer files _ _ v (answered_clean (items tree) clean) c)
+    inl (
+      answer_text (values (items tree)),
+      record { tree = tree; built = built; faultless = clean; written = refl },
+      comes_answer files _ _ v (answered_clean (items tree) clean) c,
+    )
 judged_items files query tree v built (inr (f, more, e)) c =
     inr (inl (faults (items tree), (λ g among. record { tree = tree; built = built; among = among }), comes_faults files _ _ v (answered_faulty (items tree) f more e) c))
 

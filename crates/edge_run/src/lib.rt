@@ -8,6 +8,8 @@ mod modes;
 mod outcome;
 mod query;
 mod run;
+#[cfg(test)]
+mod tests;
 
 pub use laws::{one_decision, one_query, one_verdict};
 pub use outcome::{Chan, Doc, Outcome, QueryRefusal, UsageRule, memory_line};
