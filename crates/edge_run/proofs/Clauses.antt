@@ -4,15 +4,16 @@ use Rattle.ev_io.specs.Count.{Rose}
 use Rattle.ev_io.specs.Shelf.{ShelfView}
 use Rattle.ev_io.specs.Sink.{SinkView, PutTakes, PutFails}
 use Rattle.ev_value.specs.declared.item.Fault.{Fault}
-use Rattle.edge_run.specs.Deliver.{Delivers, unwritten_of}
+use Rattle.edge_run.specs.Deliver.{Delivers, Tells, unwritten_of}
 use Rattle.edge_run.specs.Outcome.{line_of}
-use Rattle.edge_run.specs.Plan.{Plan, Goes, Verdict, Answers, Refuses, Faults, Missing, Refusal, Usage, Query, MayRefuse, told, verdict}
+use Rattle.edge_run.specs.Plan.{Plan, Goes, Verdict, Answers, Refuses, Faults, Missing, MayRefuse, Comes}
+use Rattle.edge_run.specs.Refusal.{Refusal, Usage, Query, TooLong, told}
 use Rattle.edge_run.specs.Run.{Runs, Over, IsRefusalDue, IsDue, IsAnswerDue, IsTold, IsCaused, Ends, Meets, IsComplete, IsAlong}
 use Rattle.edge_run.specs.declared.outcome.Chan.TheVariants as chan
 use Rattle.edge_run.specs.declared.outcome.Doc.{Doc}
 use Rattle.edge_run.specs.declared.outcome.Outcome.{Outcome}
 use Rattle.edge_run.specs.declared.outcome.Outcome.TheVariants as outcome
-use Rattle.edge_run.proofs.PlanLaws.{judged, possible, Possible, Follows, ReadFault, along}
+use Rattle.edge_run.proofs.PlanLaws.{judged, Judged, possible, Possible, Follows, ReadFault, along}
 
 ok_not_err : (a : List ℕ) (o : Outcome) → ◌≡◌ {A = Result (List ℕ) Outcome} (Ok a) (Err o) → ⊥
 ok_not_err a o e = search rules
@@ -26,20 +27,28 @@ ok_is a b e = cc
 told_not_memory : (x : Refusal) → told x ≡ outcome.Memory → ⊥
 told_not_memory (Usage u) e = search rules
 told_not_memory (Query r) e = search rules
+told_not_memory (TooLong d) e = search rules
 
 told_not_read : (x : Refusal) (d : Doc) → told x ≡ outcome.ReadFault d → ⊥
 told_not_read (Usage u) d e = search rules
 told_not_read (Query r) d e = search rules
+told_not_read (TooLong t) d e = search rules
 
 told_not_fault : (x : Refusal) (f : Fault) → told x ≡ outcome.RunFault f → ⊥
 told_not_fault (Usage u) f e = search rules
 told_not_fault (Query r) f e = search rules
+told_not_fault (TooLong d) f e = search rules
 
 told_same : (x y : Refusal) → told x ≡ told y → x ≡ y
 told_same (Usage u) (Usage v) e = ap Usage (search rules)
 told_same (Usage u) (Query v) e = search rules
 told_same (Query u) (Usage v) e = search rules
 told_same (Query u) (Query v) e = ap Query (search rules)
+told_same (Usage u) (TooLong d) e = search rules
+told_same (Query u) (TooLong d) e = search rules
+told_same (TooLong d) (Usage v) e = search rules
+told_same (TooLong d) (Query v) e = search rules
+told_same (TooLong d) (TooLong c) e = ap TooLong (search rules)
 
 fault_not_memory : (f : Fault) → outcome.RunFault f ≡ outcome.Memory → ⊥
 fault_not_memory f e = search rules
@@ -52,34 +61,30 @@ fault_same f g e = search rules
 
 -- ---- from what was answered to what is due
 
-answers_of : (v : Verdict (List ℕ)) (text : List ℕ) (a b : ℕ)
-    → (◌≡◌ {A = Result (List ℕ) Outcome} (Ok text) (Err outcome.Memory)) ⊎ (ReadFault {A = List ℕ} a (Ok text) b ⊎ Follows v (Ok text)) → v ≡ Answers text
-answers_of v text a b (inl e) = absurd (ok_not_err _ _ e)
-answers_of v text a b (inr (inl (d, e, rose))) = absurd (ok_not_err _ _ e)
-answers_of (Answers x) text a b (inr (inr e)) = ap Answers (sym (ok_is _ _ e))
-answers_of (Refuses x) text a b (inr (inr e)) = absurd (ok_not_err _ _ e)
-answers_of (Faults fs) text a b (inr (inr (f, among, e))) = absurd (ok_not_err _ _ e)
-answers_of (Missing d) text a b (inr (inr e)) = absurd e
+answers_of : (files : List ℕ → Option (List ℕ)) (p : Plan (List ℕ)) (text : List ℕ) (a b : ℕ) → Judged files p a (Ok text) b → Comes files p (Answers text)
+answers_of files p text a b (inl e) = absurd (ok_not_err _ _ e)
+answers_of files p text a b (inr (inl (d, e, rose))) = absurd (ok_not_err _ _ e)
+answers_of files p text a b (inr (inr (Answers x, comes, e))) = subst (λ t. Comes files p (Answers t)) (sym (ok_is _ _ e)) comes
+answers_of files p text a b (inr (inr (Refuses x, comes, e))) = absurd (ok_not_err _ _ e)
+answers_of files p text a b (inr (inr (Faults fs, comes, (f, among, e)))) = absurd (ok_not_err _ _ e)
+answers_of files p text a b (inr (inr (Missing d, comes, e))) = absurd e
 
-refuses_of : (v : Verdict (List ℕ)) (x : Refusal) (a b : ℕ)
-    → (◌≡◌ {A = Result (List ℕ) Outcome} (Err (told x)) (Err outcome.Memory)) ⊎ (ReadFault {A = List ℕ} a (Err (told x)) b ⊎ Follows v (Err (told x))) → v ≡ Refuses x
-refuses_of v x a b (inl e) = absurd (told_not_memory x (err_is _ _ e))
-refuses_of v x a b (inr (inl (d, e, rose))) = absurd (told_not_read x d (err_is _ _ e))
-refuses_of (Answers t) x a b (inr (inr e)) = absurd (ok_not_err _ _ (sym e))
-refuses_of (Refuses y) x a b (inr (inr e)) = ap Refuses (sym (told_same x y (err_is _ _ e)))
-refuses_of (Faults fs) x a b (inr (inr (f, among, e))) = absurd (told_not_fault x f (err_is _ _ e))
-refuses_of (Missing d) x a b (inr (inr e)) = absurd e
+refuses_of : (files : List ℕ → Option (List ℕ)) (p : Plan (List ℕ)) (x : Refusal) (a b : ℕ) → Judged files p a (Err (told x)) b → Comes files p (Refuses x)
+refuses_of files p x a b (inl e) = absurd (told_not_memory x (err_is _ _ e))
+refuses_of files p x a b (inr (inl (d, e, rose))) = absurd (told_not_read x d (err_is _ _ e))
+refuses_of files p x a b (inr (inr (Answers t, comes, e))) = absurd (ok_not_err _ _ (sym e))
+refuses_of files p x a b (inr (inr (Refuses y, comes, e))) = subst (λ z. Comes files p (Refuses z)) (sym (told_same x y (err_is _ _ e))) comes
+refuses_of files p x a b (inr (inr (Faults fs, comes, (f, among, e)))) = absurd (told_not_fault x f (err_is _ _ e))
+refuses_of files p x a b (inr (inr (Missing d, comes, e))) = absurd e
 
-faults_of : (v : Verdict (List ℕ)) (f : Fault) (a b : ℕ)
-    → (◌≡◌ {A = Result (List ℕ) Outcome} (Err (outcome.RunFault f)) (Err outcome.Memory))
-    ⊎ (ReadFault {A = List ℕ} a (Err (outcome.RunFault f)) b ⊎ Follows v (Err (outcome.RunFault f)))
-    → (fs : List Fault) × (v ≡ Faults fs) × Contains fs f
-faults_of v f a b (inl e) = absurd (fault_not_memory f (err_is _ _ e))
-faults_of v f a b (inr (inl (d, e, rose))) = absurd (fault_not_read f d (err_is _ _ e))
-faults_of (Answers t) f a b (inr (inr e)) = absurd (ok_not_err _ _ (sym e))
-faults_of (Refuses y) f a b (inr (inr e)) = absurd (told_not_fault y f (sym (err_is _ _ e)))
-faults_of (Faults fs) f a b (inr (inr (g, among, e))) = (fs, refl, subst (λ x. Contains fs x) (sym (fault_same f g (err_is _ _ e))) among)
-faults_of (Missing d) f a b (inr (inr e)) = absurd e
+faults_of : (files : List ℕ → Option (List ℕ)) (p : Plan (List ℕ)) (f : Fault) (a b : ℕ) → Judged files p a (Err (outcome.RunFault f)) b
+    → (fs : List Fault) × Comes files p (Faults fs) × Contains fs f
+faults_of files p f a b (inl e) = absurd (fault_not_memory f (err_is _ _ e))
+faults_of files p f a b (inr (inl (d, e, rose))) = absurd (fault_not_read f d (err_is _ _ e))
+faults_of files p f a b (inr (inr (Answers t, comes, e))) = absurd (ok_not_err _ _ (sym e))
+faults_of files p f a b (inr (inr (Refuses y, comes, e))) = absurd (told_not_fault y f (sym (err_is _ _ e)))
+faults_of files p f a b (inr (inr (Faults fs, comes, (g, among, e)))) = (fs, comes, subst (λ x. Contains fs x) (sym (fault_same f g (err_is _ _ e))) among)
+faults_of files p f a b (inr (inr (Missing d, comes, e))) = absurd e
 
 module _ (plan : Plan (List ℕ)) (shelf shelf' : ShelfView) (out out' err err' : SinkView) (result : Outcome) where
   abbrev Caused : Outcome → Type 0
@@ -89,7 +94,7 @@ module _ (plan : Plan (List ℕ)) (shelf shelf' : ShelfView) (out out' err err' 
   Due o = IsDue plan shelf shelf' out out' err err' o
 
   abbrev Line : Outcome → Type 0
-  Line o = ((result ≡ o) × PutTakes err (line_of o) err') ⊎ ((result ≡ unwritten_of o) × PutFails err (line_of o) err')
+  Line o = Tells o err err' result
 
   -- an end that is due, and whose line was put or failed so
   due_caused : (o : Outcome) → Due o → out' ≡ out → Line o → Caused result
@@ -100,6 +105,8 @@ module _ (plan : Plan (List ℕ)) (shelf shelf' : ShelfView) (out out' err err' 
   due_caused (outcome.Usage u) due same (inr (is, failed)) = subst Caused (sym is) (same, outcome.Usage u, due, failed)
   due_caused (outcome.ReadFault d) due same (inl (is, took)) = subst Caused (sym is) (due, (same, took))
   due_caused (outcome.ReadFault d) due same (inr (is, failed)) = subst Caused (sym is) (same, outcome.ReadFault d, due, failed)
+  due_caused (outcome.TooLong d) due same (inl (is, took)) = subst Caused (sym is) (due, (same, took))
+  due_caused (outcome.TooLong d) due same (inr (is, failed)) = subst Caused (sym is) (same, outcome.TooLong d, due, failed)
   due_caused (outcome.QueryRefused r) due same (inl (is, took)) = subst Caused (sym is) (due, (same, took))
   due_caused (outcome.QueryRefused r) due same (inr (is, failed)) = subst Caused (sym is) (same, outcome.QueryRefused r, due, failed)
   due_caused (outcome.RunFault f) due same (inl (is, took)) = subst Caused (sym is) (due, (same, took))
@@ -110,8 +117,9 @@ module _ (plan : Plan (List ℕ)) (shelf shelf' : ShelfView) (out out' err err' 
   memory_caused same (inr (is, failed)) = subst Caused (sym is) (same, inr failed)
 
   refusal_caused : (x : Refusal) → MayRefuse plan x → Goes plan shelf (Err (told x)) shelf' → out' ≡ out → Line (told x) → Caused result
-  refusal_caused (Usage u) may went same line = due_caused (outcome.Usage u) (may, λ files held. refuses_of _ (Usage u) _ _ (judged plan shelf shelf' _ files went held)) same line
-  refusal_caused (Query r) may went same line = due_caused (outcome.QueryRefused r) (may, λ files held. refuses_of _ (Query r) _ _ (judged plan shelf shelf' _ files went held)) same line
+  refusal_caused (Usage u) may went same line = due_caused (outcome.Usage u) (may, λ files held. refuses_of files plan (Usage u) _ _ (judged plan shelf shelf' _ files went held)) same line
+  refusal_caused (Query r) may went same line = due_caused (outcome.QueryRefused r) (may, λ files held. refuses_of files plan (Query r) _ _ (judged plan shelf shelf' _ files went held)) same line
+  refusal_caused (TooLong d) may went same line = due_caused (outcome.TooLong d) (may, λ files held. refuses_of files plan (TooLong d) _ _ (judged plan shelf shelf' _ files went held)) same line
 
   -- what was answered, in its kind
   err_caused : (o : Outcome) → Goes plan shelf (Err o) shelf' → out' ≡ out → Line o → Possible plan shelf.faults (Err o) shelf'.faults → Caused result
@@ -122,50 +130,67 @@ module _ (plan : Plan (List ℕ)) (shelf shelf' : ShelfView) (out out' err err' 
       refusal_caused x may (subst (λ p. Goes plan shelf (Err p) shelf') (err_is _ _ e) went) same (subst Line (err_is _ _ e) line)
   err_caused o went same line (inr (inr (inr (inr (f, e))))) =
       due_caused (outcome.RunFault f)
-      (λ files held. faults_of _ f _ _ (judged plan shelf shelf' _ files (subst (λ p. Goes plan shelf (Err p) shelf') (err_is _ _ e) went) held))
+      (λ files held. faults_of files plan f _ _ (judged plan shelf shelf' _ files (subst (λ p. Goes plan shelf (Err p) shelf') (err_is _ _ e) went) held))
       same (subst Line (err_is _ _ e) line)
 
   caused_at : (answer : Result (List ℕ) Outcome) → Goes plan shelf answer shelf' → Delivers answer out out' err err' result → Caused result
-  caused_at (Ok text) went (same, inl (is, took)) = subst Caused (sym is) (same, text, (λ files held. answers_of _ text _ _ (judged plan shelf shelf' _ files went held)), took)
-  caused_at (Ok text) went (same, inr (is, failed)) = subst Caused (sym is) (same, text, (λ files held. answers_of _ text _ _ (judged plan shelf shelf' _ files went held)), failed)
-  caused_at (Err o) went (same, line) = err_caused o went same line (possible plan shelf shelf' (Err o) went)
+  caused_at (Ok text) went (same, inl (is, took)) = subst Caused (sym is) (same, text, (λ files held. answers_of files plan text _ _ (judged plan shelf shelf' _ files went held)), took)
+  caused_at (Ok text) went (same, inr (is, failed)) = subst Caused (sym is) (same, text, (λ files held. answers_of files plan text _ _ (judged plan shelf shelf' _ files went held)), failed)
+  caused_at (Err o) went (same, inl line) = err_caused o went same line (possible plan shelf shelf' (Err o) went)
+  caused_at (Err o) went (same, inr line) = memory_caused same line
 
   pub caused : Runs plan shelf shelf' out out' err err' result → Caused result
   caused run = caused_at run.answer run.went run.delivered
 
   -- ---- what is due is answered
 
-  ends : (o : Outcome) → unwritten_of o ≡ outcome.WriteFault chan.Err → Delivers (Err o) out out' err err' result → Ends plan shelf shelf' out out' err err' result o
-  ends o other (same, inl (is, took)) = inl (is, (same, took))
-  ends o other (same, inr (is, failed)) = inr (is ∙ other, failed)
+  memory_told : Line outcome.Memory → result ≡ outcome.Memory
+  memory_told (inl (is, took)) = is
+  memory_told (inr (is, failed)) = is
+
+  abbrev OrMemory : Type 0 → Type 0
+  OrMemory claim = (result ≡ outcome.Memory) ⊎ claim
+
+  or_memory : {B C : Type 0} → (B → C) → OrMemory B → OrMemory C
+  or_memory f (inl e) = inl e
+  or_memory f (inr b) = inr (f b)
+
+  ends : (o : Outcome) → unwritten_of o ≡ outcome.WriteFault chan.Err → Delivers (Err o) out out' err err' result → OrMemory (Ends plan shelf shelf' out out' err err' result o)
+  ends o other (same, inl (inl (is, took))) = inr (inl (is, (same, took)))
+  ends o other (same, inl (inr (is, failed))) = inr (inr (is ∙ other, failed))
+  ends o other (same, inr line) = inl (memory_told line)
 
   unwritten_told : (x : Refusal) → unwritten_of (told x) ≡ outcome.WriteFault chan.Err
   unwritten_told (Usage u) = refl
   unwritten_told (Query r) = refl
+  unwritten_told (TooLong d) = refl
 
   answered : (text : List ℕ) → Delivers (Ok text) out out' err err' result → Meets plan shelf shelf' out out' err err' result (Answers text)
   answered text (same, line) = line
 
-  met : (v : Verdict (List ℕ)) (answer : Result (List ℕ) Outcome) → Follows v answer → Delivers answer out out' err err' result → Meets plan shelf shelf' out out' err err' result v
-  met (Answers text) answer e delivered = answered text (subst (λ a. Delivers a out out' err err' result) e delivered)
+  met : (v : Verdict (List ℕ)) (answer : Result (List ℕ) Outcome) → Follows v answer → Delivers answer out out' err err' result
+      → OrMemory (Meets plan shelf shelf' out out' err err' result v)
+  met (Answers text) answer e delivered = inr (answered text (subst (λ a. Delivers a out out' err err' result) e delivered))
   met (Refuses x) answer e delivered = ends (told x) (unwritten_told x) (subst (λ a. Delivers a out out' err err' result) e delivered)
-  met (Faults fs) answer (f, among, e) delivered = (f, among, ends (outcome.RunFault f) refl (subst (λ a. Delivers a out out' err err' result) e delivered))
+  met (Faults fs) answer (f, among, e) delivered =
+      or_memory (λ end. (f, among, end)) (ends (outcome.RunFault f) refl (subst (λ a. Delivers a out out' err err' result) e delivered))
   met (Missing d) answer e delivered = absurd e
 
   memory_is : Delivers (Err outcome.Memory) out out' err err' result → result ≡ outcome.Memory
-  memory_is (same, inl (is, took)) = is
-  memory_is (same, inr (is, failed)) = is
+  memory_is (same, inl line) = memory_told line
+  memory_is (same, inr line) = memory_told line
 
-  complete_at : (v : Verdict (List ℕ)) (answer : Result (List ℕ) Outcome) → (answer ≡ Err outcome.Memory) ⊎ (ReadFault shelf.faults answer shelf'.faults ⊎ Follows v answer)
+  complete_at : (files : List ℕ → Option (List ℕ)) (answer : Result (List ℕ) Outcome) → Judged files plan shelf.faults answer shelf'.faults
       → Delivers answer out out' err err' result
-      → (result ≡ outcome.Memory) ⊎ ((Rose shelf.faults shelf'.faults × (d : Doc) × Ends plan shelf shelf' out out' err err' result (outcome.ReadFault d)) ⊎ Meets plan shelf shelf' out out' err err' result v)
-  complete_at v answer (inl e) delivered = inl (memory_is (subst (λ a. Delivers a out out' err err' result) e delivered))
-  complete_at v answer (inr (inl (d, e, rose))) delivered =
-      inr (inl (rose, d, ends (outcome.ReadFault d) refl (subst (λ a. Delivers a out out' err err' result) e delivered)))
-  complete_at v answer (inr (inr e)) delivered = inr (inr (met v answer e delivered))
+      → OrMemory ((Rose shelf.faults shelf'.faults × (d : Doc) × Ends plan shelf shelf' out out' err err' result (outcome.ReadFault d))
+      ⊎ ((v : Verdict (List ℕ)) × Comes files plan v × Meets plan shelf shelf' out out' err err' result v))
+  complete_at files answer (inl e) delivered = inl (memory_is (subst (λ a. Delivers a out out' err err' result) e delivered))
+  complete_at files answer (inr (inl (d, e, rose))) delivered =
+      or_memory (λ end. inl (rose, d, end)) (ends (outcome.ReadFault d) refl (subst (λ a. Delivers a out out' err err' result) e delivered))
+  complete_at files answer (inr (inr (v, comes, e))) delivered = or_memory (λ meets. inr (v, comes, meets)) (met v answer e delivered)
 
   pub complete : Runs plan shelf shelf' out out' err err' result → IsComplete plan shelf shelf' out out' err err' result
-  complete run files held = complete_at (verdict files plan) run.answer (judged plan shelf shelf' _ files run.went held) run.delivered
+  complete run files held = complete_at files run.answer (judged plan shelf shelf' _ files run.went held) run.delivered
 
   pub called : Runs plan shelf shelf' out out' err err' result → IsAlong plan shelf shelf' out out' err err' result
   called run = let a = along plan shelf shelf' run.answer run.went in record { answer = run.answer; made = a.0; along = a.1; calls = a.2; delivered = run.delivered }

@@ -1,8 +1,6 @@
 pub mod Answered
 pub mod Clauses
 pub mod ConstLaws
-pub mod Grammar
+pub mod Decisions
 pub mod HeadlineLaws
 pub mod PlanLaws
-pub mod Spelling
-pub mod Turns

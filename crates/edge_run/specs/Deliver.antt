@@ -11,16 +11,20 @@ abbrev pub unwritten_of : Outcome → Outcome
 unwritten_of outcome.Done = outcome.WriteFault chan.Err
 unwritten_of (outcome.Usage u) = outcome.WriteFault chan.Err
 unwritten_of (outcome.ReadFault d) = outcome.WriteFault chan.Err
+unwritten_of (outcome.TooLong d) = outcome.WriteFault chan.Err
 unwritten_of (outcome.WriteFault c) = outcome.WriteFault chan.Err
 unwritten_of (outcome.QueryRefused r) = outcome.WriteFault chan.Err
 unwritten_of (outcome.RunFault f) = outcome.WriteFault chan.Err
 unwritten_of outcome.Memory = outcome.Memory
 
--- One put in all. An answer goes to `out`, the line of another end to `err`, and the other sink is as it was.
+-- The line of the end was put to `err`, or the put of it failed.
+abbrev pub Tells : Outcome → SinkView → SinkView → Outcome → Type 0
+Tells due err err' result = ((result ≡ due) × PutTakes err (line_of due) err') ⊎ ((result ≡ unwritten_of due) × PutFails err (line_of due) err')
+
+-- One put in all. An answer goes to `out`, the line of another end to `err`, and the other sink is as it was. Where there is no
+-- memory for a line, this is told.
 abbrev pub Delivers : Result (List ℕ) Outcome → SinkView → SinkView → SinkView → SinkView → Outcome → Type 0
 Delivers (Ok text) out out' err err' result =
     (err' ≡ err) × (((result ≡ outcome.Done) × PutTakes out text out')
     ⊎ ((result ≡ outcome.WriteFault chan.Out) × PutFails out text out'))
-Delivers (Err due) out out' err err' result =
-    (out' ≡ out) × (((result ≡ due) × PutTakes err (line_of due) err')
-    ⊎ ((result ≡ unwritten_of due) × PutFails err (line_of due) err'))
+Delivers (Err due) out out' err err' result = (out' ≡ out) × (Tells due err err' result ⊎ Tells outcome.Memory err err' result)

@@ -7,13 +7,13 @@ use Rattle.ev_io.specs.Shelf.{ShelfView, ReadFails}
 use Rattle.ev_io.specs.Sink.{SinkView, PutTakes, PutFails}
 use Rattle.ev_value.specs.Item.{faults, values}
 use Rattle.ev_value.specs.declared.item.Fault.{Fault}
-use Rattle.edge_run.specs.Modes.{query_limit, answer_text}
+use Rattle.edge_run.specs.Modes.{answer_text}
 use Rattle.edge_run.specs.Outcome.{line_of}
-use Rattle.edge_run.specs.Query.{IsQuery}
+use Rattle.edge_run.specs.Query.{IsBuilt, IsRefused, IsLong}
 use Rattle.edge_run.specs.Run.{Over}
 use Rattle.edge_run.specs.declared.outcome.Chan.TheVariants as chan
 use Rattle.edge_run.specs.declared.outcome.Doc.TheVariants as doc
-use Rattle.edge_run.specs.declared.outcome.QueryRefusal.TheVariants as refusal
+use Rattle.edge_run.specs.declared.outcome.QueryRefusal.{QueryRefusal}
 use Rattle.edge_run.specs.declared.outcome.UsageRule.{UsageRule}
 use Rattle.edge_run.specs.declared.outcome.UsageRule.TheVariants as rule
 use Rattle.edge_run.specs.declared.outcome.Outcome.{Outcome}
@@ -33,11 +33,6 @@ FailsUsage rule.U1 words = length words ≢ 4
 FailsUsage rule.U2 words =
     (mode : List ℕ) × (schema : List ℕ) × (data_word : List ℕ) × (name : List ℕ) × (words ≡ four mode schema data_word name) × (mode ≢ codes "const")
 
--- the text is that of a built query, and not too long
-pub record IsBuilt (text : List ℕ) (query : Expr) : Type 0 where
-  pub short : length text ≤ query_limit
-  pub spelled : IsQuery text query
-
 -- the query text is answered by this text: its items hold no fault, and the text is the JSON array of their values and a line feed
 pub record IsAnswered (query answer : List ℕ) : Type 0 where
   pub tree : Expr
@@ -51,10 +46,6 @@ pub record IsFaulty (query : List ℕ) (fault : Fault) : Type 0 where
   pub built : IsBuilt query tree
   pub among : Contains (faults (items tree)) fault
 
--- the text is that of no built query, or too long
-abbrev pub IsUnbuilt : List ℕ → Type 0
-IsUnbuilt text = (query : Expr) → IsBuilt text query → ⊥
-
 module _ (words : List (List ℕ)) (shelf shelf' : ShelfView) where
   -- the words ask for mode `const`, and where the shelf tells its bytes, the query under the name meets the claim
   abbrev pub OverQuery : (List ℕ → Type 0) → Type 0
@@ -66,7 +57,8 @@ module _ (words : List (List ℕ)) (shelf shelf' : ShelfView) where
   IsCauseOf (outcome.Usage u) = FailsUsage u words
   IsCauseOf (outcome.ReadFault d) = (d ≡ doc.Query) × (name : List ℕ) × AsksConst words name × ReadFails shelf name shelf'
   IsCauseOf (outcome.WriteFault c) = ⊥
-  IsCauseOf (outcome.QueryRefused refusal.Unbuilt) = OverQuery IsUnbuilt
+  IsCauseOf (outcome.TooLong d) = (d ≡ doc.Query) × OverQuery IsLong
+  IsCauseOf (outcome.QueryRefused r) = OverQuery (λ query. IsRefused query r)
   IsCauseOf (outcome.RunFault f) = OverQuery (λ query. IsFaulty query f)
   IsCauseOf outcome.Memory = ⊥
 
@@ -75,7 +67,7 @@ module _ (words : List (List ℕ)) (shelf shelf' : ShelfView) (out out' err err'
   IsLine o = IsCauseOf words shelf shelf' o × (out' ≡ out) × PutTakes err (line_of o) err'
 
   -- What each end says. Done: `out` took exactly the text that answers the query, and `err` is as it was. A usage line, a read
-  -- fault, a refused query and a run fault come only with their cause: `out` is as it was, and `err` took exactly their line. A
+  -- fault, a long or refused query and a run fault come only with their cause: `out` is as it was, and `err` took exactly their line. A
   -- write fault comes only where such a put failed, after a first part of the text or of the line. Want of memory is free.
   abbrev pub IsHeadline : Outcome → Type 0
   IsHeadline outcome.Done = (err' ≡ err) × (text : List ℕ) × OverQuery words shelf shelf' (λ query. IsAnswered query text) × PutTakes out text out'
@@ -84,6 +76,7 @@ module _ (words : List (List ℕ)) (shelf shelf' : ShelfView) (out out' err err'
   IsHeadline outcome.Memory = (out' ≡ out) × (PutTakes err (line_of outcome.Memory) err' ⊎ PutFails err (line_of outcome.Memory) err')
   IsHeadline (outcome.Usage u) = IsLine (outcome.Usage u)
   IsHeadline (outcome.ReadFault d) = IsLine (outcome.ReadFault d)
+  IsHeadline (outcome.TooLong d) = IsLine (outcome.TooLong d)
   IsHeadline (outcome.QueryRefused r) = IsLine (outcome.QueryRefused r)
   IsHeadline (outcome.RunFault f) = IsLine (outcome.RunFault f)
 
@@ -98,13 +91,14 @@ module _ (words : List (List ℕ)) (shelf shelf' : ShelfView) (out out' err err'
   Writes result text =
       ((result ≡ outcome.Done) × (err' ≡ err) × PutTakes out text out') ⊎ ((result ≡ outcome.WriteFault chan.Out) × (err' ≡ err) × PutFails out text out')
 
-  -- what must come of the text under the query's name: it is answered, or one of its faults is told, or it is refused
+  -- what must come of the text under the query's name: it is answered, or one of its faults is told, or it is refused or too long
   abbrev pub IsServed : Outcome → Option (List ℕ) → Type 0
   IsServed result None = ⊥
   IsServed result (Some query) =
       ((text : List ℕ) × IsAnswered query text × Writes result text)
       ⊎ (((fault : Fault) × IsFaulty query fault × ComesTo result (outcome.RunFault fault))
-      ⊎ (IsUnbuilt query × ComesTo result (outcome.QueryRefused refusal.Unbuilt)))
+      ⊎ (((r : QueryRefusal) × IsRefused query r × ComesTo result (outcome.QueryRefused r))
+      ⊎ (IsLong query × ComesTo result (outcome.TooLong doc.Query))))
 
   -- Each cause has its end, unless memory ran out. A failed read of the query comes before what its text would give.
   pub record IsExact (result : Outcome) : Type 0 where

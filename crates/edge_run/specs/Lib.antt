@@ -1,4 +1,3 @@
-pub mod Cursor
 pub mod Deliver
 pub mod Evaluate
 pub mod Headline
@@ -6,5 +5,5 @@ pub mod Modes
 pub mod Outcome
 pub mod Plan
 pub mod Query
-pub mod Reader
+pub mod Refusal
 pub mod Run

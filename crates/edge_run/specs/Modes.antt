@@ -1,5 +1,5 @@
 -- What each mode reads and decides.
-use Rattle.std.specs.Prelude.{◌≡◌, ℕ, ◌+◌, nat_lt, if◌then◌else◌, List, [], ◌∷◌, ◌++◌, length, Result, Ok, Err, Option, Some, None, codes}
+use Rattle.std.specs.Prelude.{◌≡◌, ℕ, ◌+◌, if◌then◌else◌, List, [], ◌∷◌, ◌++◌, length, Result, Ok, Err, Option, Some, None, codes}
 use Rattle.std.specs.Str.{bytes_eq}
 use Rattle.const_ir.specs.Meaning.{items}
 use Rattle.const_ir.specs.declared.expr.Expr.{Expr}
@@ -9,27 +9,15 @@ use Rattle.ev_value.specs.Nested.{answer_form}
 use Rattle.ev_value.specs.declared.item.Fault.{Fault}
 use Rattle.ev_value.specs.declared.item.Item.{Item}
 use Rattle.ev_value.specs.declared.value.Val.{Val}
-use Rattle.edge_run.specs.Plan.{Plan, Answer, Refuse, Fail, Read, ◌>>=◌, ruled, Refusal, Usage, Query}
-use Rattle.edge_run.specs.Reader.{read_query}
+use Rattle.edge_run.specs.Plan.{Plan, Answer, Refuse, Fail, Read, Judge, ◌>>=◌, ruled}
+use Rattle.edge_run.specs.Query.{query_limit}
+use Rattle.edge_run.specs.Refusal.{Refusal, Usage}
 use Rattle.edge_run.specs.declared.outcome.Doc.TheVariants as doc
-use Rattle.edge_run.specs.declared.outcome.QueryRefusal.TheVariants as refusal
 use Rattle.edge_run.specs.declared.outcome.UsageRule.TheVariants as rule
-
--- how many bytes a query may have
-abbrev pub query_limit : ℕ
-query_limit = 1048576
 
 -- the whole of a document; one byte more than its limit is asked for, so that a longer one shows itself
 abbrev pub query_document : List ℕ → Plan (List ℕ)
 query_document name = Read doc.Query name (query_limit + 1) (λ text. Answer text)
-
-abbrev pub or_unbuilt : Option Expr → Result Expr Refusal
-or_unbuilt (Some query) = Ok query
-or_unbuilt None = Err (Query refusal.Unbuilt)
-
--- the tree of a query text, unless it is too long or of no built form
-unfoldable pub query_rule : List ℕ → Result Expr Refusal
-query_rule text = if nat_lt query_limit (length text) then Err (Query refusal.Unbuilt) else or_unbuilt (read_query text)
 
 -- the text of an answer: the JSON array of its values, and a line feed
 abbrev pub answer_text : List Val → List ℕ
@@ -46,7 +34,7 @@ answered xs = if has_fault xs then Fail (faults xs) else Answer (answer_text (va
 
 -- mode `const`: the query alone, over no objects and no arguments
 unfoldable pub query_plan : List ℕ → Plan Expr
-query_plan name = query_document name >>= (λ text. ruled (query_rule text))
+query_plan name = query_document name >>= (λ text. Judge text ruled)
 
 unfoldable pub const_plan : List ℕ → Plan (List ℕ)
 const_plan name = query_plan name >>= (λ query. answered (items query))

@@ -1,113 +1,93 @@
--- The texts of the built queries: `select`, then a sum of numbers and of braces with numbers.
-use Rattle.std.specs.Prelude.{◌≡◌, ◌≢◌, ℕ, ◌+◌, ◌-◌, ◌*◌, ◌^◌, ◌≤◌, Bool, true, false, ◌||◌, ◌&&◌, IsTrue, eqb, nat_lt, List, [], ◌∷◌, ◌++◌, map, length, codes, ℤ, pos}
-use Rattle.std.specs.List.{list_all}
-use Rattle.std.specs.Char.{is_ascii_digit, is_ascii_alphanumeric, to_ascii_lowercase}
-use Rattle.ev_value.specs.declared.value.Val.{Int}
-use Rattle.const_ir.specs.Expr.{literal, add, set}
+-- Which texts are queries, which of them are built, and why the others are refused.
+use Rattle.std.specs.Prelude.{◌≡◌, ℕ, ◌≤◌, ◌<◌, List, length, Result, Ok, Err, Option, Some, None, ◌⊎◌}
+use Rattle.ast.specs.declared.statement.Query.{Query}
+use Rattle.const_build.specs.Built.{built_query}
 use Rattle.const_ir.specs.declared.expr.Expr.{Expr}
+use Rattle.eql_grammar.specs.Promise.{QueryText}
+use Rattle.eql_grammar.specs.Promise as grammar
+use Rattle.ev_lex.specs.Reading.{IsCut}
+use Rattle.ev_lex.specs.Reading as lexical
+use Rattle.ev_lex.specs.declared.token.Token.{Token}
+use Rattle.exact.specs.Promise as exact
+use Rattle.exact.specs.declared.rule.Rule.{Rule}
+use Rattle.edge_run.specs.Refusal.{Refusal, told}
+use Rattle.edge_run.specs.Refusal as refused
+use Rattle.edge_run.specs.declared.outcome.Doc.TheVariants as doc
+use Rattle.edge_run.specs.declared.outcome.Outcome.{Outcome}
+use Rattle.edge_run.specs.declared.outcome.Outcome.TheVariants as outcome
+use Rattle.edge_run.specs.declared.outcome.QueryRefusal.{QueryRefusal}
+use Rattle.edge_run.specs.declared.outcome.QueryRefusal.TheVariants as refusal
 
--- space, tab, line feed or carriage return
-abbrev pub is_space : ℕ → Bool
-is_space b = eqb b 32 || (eqb b 9 || (eqb b 10 || eqb b 13))
+-- how many bytes a query may have
+abbrev pub query_limit : ℕ
+query_limit = 1048576
 
--- a letter, a digit or `_`
-abbrev pub is_word : ℕ → Bool
-is_word b = is_ascii_alphanumeric b || eqb b 95
+-- the text has more bytes than a query may have
+abbrev pub IsLong : List ℕ → Type 0
+IsLong text = query_limit < length text
 
--- what may stand in a text from some place on to its end
-abbrev pub Rest : Type 1
-Rest = List ℕ → Type 0
+-- the text is cut into tokens that spell the surface tree within the limits of the grammar
+abbrev pub IsQuery : List ℕ → Query → Type 0
+IsQuery text query = (tokens : List Token) × IsCut text tokens × grammar.IsQuery tokens query
 
--- white space and nothing else
-abbrev pub Blank : Rest
-Blank text = IsTrue (list_all is_space text)
+-- the text is not too long and spells a surface tree, which is built as this tree
+pub record IsBuilt (text : List ℕ) (tree : Expr) : Type 0 where
+  pub short : length text ≤ query_limit
+  pub surface : Query
+  pub spelled : IsQuery text surface
+  pub built : built_query surface ≡ Some tree
 
--- no letter, digit or `_` comes next
-abbrev pub Ends : Rest
-Ends [] = Unit {0}
-Ends (b ∷ more) = is_word b ≡ false
+-- Why a text is refused: with this byte no token begins; by this rule the grammar refuses this token; it spells a surface tree
+-- that is not built.
+abbrev pub IsReason : List ℕ → QueryRefusal → Type 0
+IsReason text (refusal.Lex byte) = lexical.IsRefused text byte
+IsReason text (refusal.Syntax rule token) = (tokens : List Token) × IsCut text tokens × exact.IsRefused QueryText tokens rule token
+IsReason text refusal.Unbuilt = (surface : Query) × IsQuery text surface × (built_query surface ≡ None)
 
--- white space, then this sign, then what comes next
-pub record Sign (sign : ℕ) (next : Rest) (text : List ℕ) : Type 0 where
-  pub space : List ℕ
-  pub rest : List ℕ
-  pub parts : text ≡ space ++ sign ∷ rest
-  pub blank : Blank space
-  pub after : next rest
+-- the text is not too long, and is refused for this reason
+pub record IsRefused (text : List ℕ) (r : QueryRefusal) : Type 0 where
+  pub short : length text ≤ query_limit
+  pub reason : IsReason text r
 
--- the number that digits write
-abbrev pub value_from : ℕ → List ℕ → ℕ
-value_from n [] = n
-value_from n (d ∷ more) = value_from (10 * n + (d - 48)) more
+-- what the rules of query texts decide: the tree, or a refusal
+abbrev pub Decides : List ℕ → Result Expr Refusal → Type 0
+Decides text (Ok tree) = IsBuilt text tree
+Decides text (Err (refused.Usage u)) = ⊥
+Decides text (Err (refused.Query r)) = IsRefused text r
+Decides text (Err (refused.TooLong d)) = (d ≡ doc.Query) × IsLong text
 
--- the greatest number of 64 bits with a sign
-abbrev pub most_int : ℕ
-most_int = 2 ^ 63 - 1
+-- ---- what the code answers
 
--- white space, then digits that write the number, which is one of 64 bits and is not followed at once by a letter, a digit or `_`
-pub record Number (n : ℕ) (next : Rest) (text : List ℕ) : Type 0 where
-  pub space : List ℕ
-  pub digits : List ℕ
-  pub rest : List ℕ
-  pub parts : text ≡ space ++ (digits ++ rest)
-  pub blank : Blank space
-  pub some : digits ≢ []
-  pub all_digits : IsTrue (list_all is_ascii_digit digits)
-  pub writes : value_from 0 digits ≡ n
-  pub small : n ≤ most_int
-  pub ends : Ends rest
-  pub after : next rest
+-- memory ran out, or a reason why the text is refused is told
+abbrev pub IsTold : List ℕ → Outcome → Type 0
+IsTold text o = (o ≡ outcome.Memory) ⊎ ((r : QueryRefusal) × IsReason text r × (o ≡ outcome.QueryRefused r))
 
--- white space, then the word `select` in any case
-pub record Select (next : Rest) (text : List ℕ) : Type 0 where
-  pub space : List ℕ
-  pub word : List ℕ
-  pub rest : List ℕ
-  pub parts : text ≡ space ++ (word ++ rest)
-  pub blank : Blank space
-  pub spelled : map to_ascii_lowercase word ≡ codes "select"
-  pub ends : Ends rest
-  pub after : next rest
+-- the tokens of the text, or what is told in their place
+abbrev pub IsTokens : List ℕ → Result (List Token) Outcome → Type 0
+IsTokens text (Ok tokens) = IsCut text tokens
+IsTokens text (Err o) = IsTold text o
 
--- any number of times a comma and a number
-abbrev pub Commas : List ℕ → Rest → Rest
-Commas [] next = next
-Commas (n ∷ more) next = Sign 44 (Number n (Commas more next))
+-- the surface tree of the tokens, or the token that is refused
+abbrev pub IsParsed : List Token → Result Query Outcome → Type 0
+IsParsed tokens (Ok query) = grammar.IsQuery tokens query
+IsParsed tokens (Err o) = (o ≡ outcome.Memory)
+    ⊎ ((rule : Rule) × (token : ℕ) × exact.IsRefused QueryText tokens rule token × (o ≡ outcome.QueryRefused (refusal.Syntax rule token)))
 
--- a term of a sum: a number, or numbers between braces
-pub data Term : Type 0 where
-  Single : ℕ → Term
-  Braces : ℕ → List ℕ → Term
+-- the surface tree of the text, or what is told in its place
+abbrev pub IsSurface : List ℕ → Result Query Outcome → Type 0
+IsSurface text (Ok query) = IsQuery text query
+IsSurface text (Err o) = IsTold text o
 
-abbrev pub TermText : Term → Rest → Rest
-TermText (Single n) next = Number n next
-TermText (Braces n more) next = Sign 123 (Number n (Commas more (Sign 125 next)))
+-- the tree of a surface tree, or that it is not built
+abbrev pub IsTree : Option Expr → Result Expr Outcome → Type 0
+IsTree due (Ok tree) = due ≡ Some tree
+IsTree due (Err o) = (o ≡ outcome.Memory) ⊎ ((due ≡ None) × (o ≡ outcome.QueryRefused refusal.Unbuilt))
 
--- any number of times `+` and a term, up to the end of the text
-abbrev pub PlusTerms : List Term → Rest
-PlusTerms [] = Blank
-PlusTerms (t ∷ more) = Sign 43 (TermText t (PlusTerms more))
+-- what was decided, as the code tells it
+abbrev pub as_told : {A : Type 0} → Result A Refusal → Result A Outcome
+as_told (Ok a) = Ok a
+as_told (Err r) = Err (told r)
 
-abbrev pub number_of : ℕ → Expr
-number_of n = literal (Int (pos n))
-
-abbrev pub term_of : Term → Expr
-term_of (Single n) = number_of n
-term_of (Braces n more) = set (map number_of (n ∷ more))
-
--- a sum is grouped to the left
-abbrev pub grouped : Expr → List Term → Expr
-grouped left [] = left
-grouped left (t ∷ more) = grouped (add left (term_of t)) more
-
--- how many terms a sum may have
-abbrev pub most_terms : ℕ
-most_terms = 50
-
--- the text spells the query: `select`, and then at most 50 terms joined by `+`
-pub record IsQuery (text : List ℕ) (query : Expr) : Type 0 where
-  pub first : Term
-  pub more : List Term
-  pub few : length more + 1 ≤ most_terms
-  pub spelled : Select (TermText first (PlusTerms more)) text
-  pub tree : query ≡ grouped (term_of first) more
+-- what the rules of query texts decide, or that memory ran out
+abbrev pub IsDecided : List ℕ → Result Expr Outcome → Type 0
+IsDecided text result = (result ≡ Err outcome.Memory) ⊎ ((decided : Result Expr Refusal) × Decides text decided × (result ≡ as_told decided))

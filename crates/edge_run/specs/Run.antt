@@ -6,7 +6,8 @@ use Rattle.ev_io.specs.Sink.{SinkView, PutTakes, PutFails}
 use Rattle.ev_value.specs.declared.item.Fault.{Fault}
 use Rattle.edge_run.specs.Deliver.{Delivers}
 use Rattle.edge_run.specs.Outcome.{line_of}
-use Rattle.edge_run.specs.Plan.{Plan, Goes, Along, MayRefuse, Refusal, Usage, Query, told, verdict, Verdict, Answers, Refuses, Faults, Missing}
+use Rattle.edge_run.specs.Plan.{Plan, Goes, Along, MayRefuse, Comes, Verdict, Answers, Refuses, Faults, Missing}
+use Rattle.edge_run.specs.Refusal.{Refusal, Usage, Query, TooLong, told}
 use Rattle.edge_run.specs.declared.outcome.Chan.TheVariants as chan
 use Rattle.edge_run.specs.declared.outcome.Outcome.{Outcome}
 use Rattle.edge_run.specs.declared.outcome.Outcome.TheVariants as outcome
@@ -24,21 +25,22 @@ Over shelf claim = (files : List ℕ → Option (List ℕ)) → shelf.held ≡ S
 module _ (plan : Plan (List ℕ)) (shelf shelf' : ShelfView) (out out' err err' : SinkView) where
   -- a rule refuses what the names hold
   abbrev pub IsRefusalDue : Refusal → Type 0
-  IsRefusalDue x = MayRefuse plan x × Over shelf (λ files. verdict files plan ≡ Refuses x)
+  IsRefusalDue x = MayRefuse plan x × Over shelf (λ files. Comes files plan (Refuses x))
 
   -- an end that a line tells is due: by the rule that fails, by a fault among the items, or by the shelf's fault
   abbrev pub IsDue : Outcome → Type 0
   IsDue outcome.Done = ⊥
   IsDue (outcome.Usage u) = IsRefusalDue (Usage u)
   IsDue (outcome.ReadFault d) = Rose shelf.faults shelf'.faults
+  IsDue (outcome.TooLong d) = IsRefusalDue (TooLong d)
   IsDue (outcome.WriteFault c) = ⊥
   IsDue (outcome.QueryRefused r) = IsRefusalDue (Query r)
-  IsDue (outcome.RunFault f) = Over shelf (λ files. (fs : List Fault) × (verdict files plan ≡ Faults fs) × Contains fs f)
+  IsDue (outcome.RunFault f) = Over shelf (λ files. (fs : List Fault) × Comes files plan (Faults fs) × Contains fs f)
   IsDue outcome.Memory = ⊥
 
   -- this text is the answer that is due
   abbrev pub IsAnswerDue : List ℕ → Type 0
-  IsAnswerDue text = Over shelf (λ files. verdict files plan ≡ Answers text)
+  IsAnswerDue text = Over shelf (λ files. Comes files plan (Answers text))
 
   -- the end's line was put to `err`, and `out` is as it was
   abbrev pub IsTold : Outcome → Type 0
@@ -54,6 +56,7 @@ module _ (plan : Plan (List ℕ)) (shelf shelf' : ShelfView) (out out' err err' 
   IsCaused outcome.Memory = (out' ≡ out) × (PutTakes err (line_of outcome.Memory) err' ⊎ PutFails err (line_of outcome.Memory) err')
   IsCaused (outcome.Usage u) = IsDue (outcome.Usage u) × IsTold (outcome.Usage u)
   IsCaused (outcome.ReadFault d) = IsDue (outcome.ReadFault d) × IsTold (outcome.ReadFault d)
+  IsCaused (outcome.TooLong d) = IsDue (outcome.TooLong d) × IsTold (outcome.TooLong d)
   IsCaused (outcome.QueryRefused r) = IsDue (outcome.QueryRefused r) × IsTold (outcome.QueryRefused r)
   IsCaused (outcome.RunFault f) = IsDue (outcome.RunFault f) × IsTold (outcome.RunFault f)
 
@@ -71,7 +74,7 @@ module _ (plan : Plan (List ℕ)) (shelf shelf' : ShelfView) (out out' err err' 
   -- What is due is answered, unless memory ran out, or a read failed and this is told.
   abbrev pub IsComplete : Outcome → Type 0
   IsComplete result = Over shelf (λ files. (result ≡ outcome.Memory)
-      ⊎ ((Rose shelf.faults shelf'.faults × (d : _) × Ends result (outcome.ReadFault d)) ⊎ Meets result (verdict files plan)))
+      ⊎ ((Rose shelf.faults shelf'.faults × (d : _) × Ends result (outcome.ReadFault d)) ⊎ ((v : Verdict (List ℕ)) × Comes files plan v × Meets result v)))
 
   -- The calls of the shelf are those of the plan.
   pub record IsAlong (result : Outcome) : Type 0 where

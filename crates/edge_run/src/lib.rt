@@ -1,17 +1,16 @@
 //! The top call: from the words of a command line to the bytes of the answer.
 #![tactic(auto)]
 
-mod cursor;
 mod deliver;
 mod evaluate;
+mod laws;
 mod modes;
 mod outcome;
-mod reader;
+mod query;
 mod run;
 #[cfg(test)]
 mod tests;
 
-pub use cursor::ReadError;
-pub use outcome::{Chan, Doc, Outcome, QueryRefusal, UsageRule};
-pub use reader::{one_query, read_query, reads_what_is_spelled};
+pub use laws::{one_decision, one_query, one_verdict};
+pub use outcome::{Chan, Doc, Outcome, QueryRefusal, UsageRule, memory_line};
 pub use run::run_words;

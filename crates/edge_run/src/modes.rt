@@ -4,21 +4,17 @@ ghost use Rattle.ev_io.specs.Shelf.{ShelfView};
 ghost use Rattle.ev_value.specs.Item.{faults, values};
 ghost use Rattle.ev_value.specs.Nested.{answer_form as answer_form_of};
 ghost use Rattle.const_ir.specs.Meaning.{items};
-ghost use Rattle.edge_run.specs.Plan.{Goes, IsRuled};
-ghost use Rattle.edge_run.specs.Modes.{query_document, query_rule, query_plan, answered, answer_text as answer_text_of, IsFirst, const_plan, mode_plan, plan_of};
+ghost use Rattle.edge_run.specs.Plan.{Goes};
+ghost use Rattle.edge_run.specs.Modes.{query_document, query_plan, answered, answer_text as answer_text_of, IsFirst, const_plan, mode_plan, plan_of};
 
-use crate::cursor::ReadError;
 use crate::evaluate::evaluate;
-use crate::outcome::{Doc, Outcome, QueryRefusal, UsageRule};
-use crate::reader::read_query;
+use crate::outcome::{Doc, Outcome, UsageRule};
+use crate::query::{QUERY_LIMIT, decide};
 use const_ir::Expr;
 use ev_io::{Shelf, ShelfError};
 use ev_value::{Bytes, Fault, Item, List, Nested, Text, Val};
 use shape_decode::text;
 use std::alloc::{AllocError, Global};
-
-/// How many bytes a query may have.
-const QUERY_LIMIT: u64 = 1_048_576;
 
 // A document's first bytes, up to one more than its limit.
 #[tactic(auto, unfolding(crate::specs::Plan::Goes))]
@@ -32,26 +28,12 @@ fn query_document<H: Shelf>(shelf: &mut H, name: &Text) -> Result<Bytes, Outcome
     }
 }
 
-#[tactic(auto, unfolding(crate::specs::Modes::query_rule))]
-fn query_of(alloc: Global, text: &Bytes) -> Result<Expr, Outcome>
-    ensures { IsRuled result (query_rule text.now) }
-{
-    if text.len() as u64 > QUERY_LIMIT {
-        return Err(Outcome::QueryRefused(QueryRefusal::Unbuilt));
-    }
-    match read_query(alloc, text.as_slice()) {
-        Ok(query) => Ok(query),
-        Err(ReadError::Unbuilt) => Err(Outcome::QueryRefused(QueryRefusal::Unbuilt)),
-        Err(ReadError::Memory) => Err(Outcome::Memory),
-    }
-}
-
-#[tactic(auto, unfolding(crate::specs::Modes::query_plan), using(crate::proofs::PlanLaws::then_ok, crate::proofs::PlanLaws::then_err, crate::proofs::PlanLaws::ruled_goes))]
+#[tactic(auto, unfolding(crate::specs::Modes::query_plan), using(crate::proofs::PlanLaws::then_ok, crate::proofs::PlanLaws::then_err, crate::proofs::PlanLaws::judged_goes))]
 fn read_tree<H: Shelf>(alloc: Global, shelf: &mut H, name: &Text) -> Result<Expr, Outcome>
     ensures { Goes (query_plan name.now) (H.seen shelf.old) result (H.seen shelf.new) }
 {
     match query_document(shelf, name) {
-        Ok(text) => query_of(alloc, &text),
+        Ok(text) => decide(alloc, &text),
         Err(outcome) => Err(outcome),
     }
 }

@@ -35,5 +35,5 @@ pub fn run_words<H: Shelf, K: Sink, L: Sink, G: Gate>(
     ensures calls { IsAlong (plan_of words.now) (H.seen shelf.old) (H.seen shelf.new)
         (K.seen out.old) (K.seen out.new) (L.seen err.old) (L.seen err.new) result }
 {
-    deliver(answer(alloc, words, shelf), out, err)
+    deliver(alloc, answer(alloc, words, shelf), out, err)
 }

@@ -58,7 +58,7 @@ fn ends(
 }
 
 // The words, the query, the status, and what `out` and `err` take.
-static RUNS: [(&str, &str, u8, &str, &str); 20] = [
+static RUNS: [(&str, &str, u8, &str, &str); 24] = [
     ("const none none q", "select {2, 1} + 1", 0, "[3,2]\n", ""),
     (
         "const none none q",
@@ -67,7 +67,27 @@ static RUNS: [(&str, &str, u8, &str, &str); 20] = [
         "[11,21,12,22]\n",
         "",
     ),
-    ("const none none q", " \t\r\nselect\n007 ", 0, "[7]\n", ""),
+    (
+        "const none none q",
+        " \t\r\nselect\n007 # one\n;",
+        0,
+        "[7]\n",
+        "",
+    ),
+    (
+        "const none none q",
+        "select {{1},2}+{10,20}",
+        0,
+        "[11,21,12,22]\n",
+        "",
+    ),
+    (
+        "const none none q",
+        "select (1 + {2, 3,}) + (({4}))",
+        0,
+        "[7,8]\n",
+        "",
+    ),
     (
         "const none none q",
         "select 9223372036854775807",
@@ -91,18 +111,56 @@ static RUNS: [(&str, &str, u8, &str, &str); 20] = [
     ),
     (
         "const none none q",
+        "select \"abc",
+        8,
+        "",
+        "query S1 byte 7\n",
+    ),
+    (
+        "const none none q",
         "select 9223372036854775808",
+        8,
+        "",
+        "query S1 byte 7\n",
+    ),
+    (
+        "const none none q",
+        "select User {name",
+        8,
+        "",
+        "query S2 token 4\n",
+    ),
+    (
+        "const none none q",
+        "select {1",
+        8,
+        "",
+        "query S2 token 3\n",
+    ),
+    ("const none none q", "select1", 8, "", "query S2 token 0\n"),
+    ("const none none q", "", 8, "", "query S2 token 0\n"),
+    (
+        "const none none q",
+        "select 1 - 2",
         8,
         "",
         "query unbuilt\n",
     ),
-    ("const none none q", "select {1", 8, "", "query unbuilt\n"),
     ("const none none q", "select {}", 8, "", "query unbuilt\n"),
-    ("const none none q", "select {1,}", 8, "", "query unbuilt\n"),
-    ("const none none q", "select 1 + ", 8, "", "query unbuilt\n"),
-    ("const none none q", "select 12x", 8, "", "query unbuilt\n"),
-    ("const none none q", "select1", 8, "", "query unbuilt\n"),
-    ("const none none q", "", 8, "", "query unbuilt\n"),
+    (
+        "const none none q",
+        "select 1 limit 1",
+        8,
+        "",
+        "query unbuilt\n",
+    ),
+    (
+        "const none none q",
+        "with x := 1 select 1",
+        8,
+        "",
+        "query unbuilt\n",
+    ),
     ("const none none r", "select 1", 3, "", "read query\n"),
     ("const none none", "select 1", 2, "", "usage U1\n"),
     ("", "select 1", 2, "", "usage U1\n"),
@@ -120,6 +178,19 @@ fn answers_worked_queries(rt: HostRuntime) -> Result<(), Fail> {
     Ok(())
 }
 
+// `select ((..1..))` with this many parentheses.
+fn nested(alloc: Global, parentheses: usize) -> Result<Vec<u8>, AllocError> {
+    let mut query = Vec::from_slice(alloc, b"select ")?;
+    for _ in 0..parentheses {
+        query.push(b'(')?;
+    }
+    query.push(b'1')?;
+    for _ in 0..parentheses {
+        query.push(b')')?;
+    }
+    Ok(query)
+}
+
 // `select 1 + 1 + ..` with this many terms.
 fn ones(alloc: Global, terms: usize) -> Result<Vec<u8>, AllocError> {
     let mut query = Vec::from_slice(alloc, b"select 1")?;
@@ -129,21 +200,25 @@ fn ones(alloc: Global, terms: usize) -> Result<Vec<u8>, AllocError> {
     Ok(query)
 }
 
-fn ends_of_ones(alloc: Global, terms: usize, told: (&str, &str)) -> Result<bool, AllocError> {
+fn ends_at(alloc: Global, query: &[u8], told: (&str, &str)) -> Result<bool, AllocError> {
     let status = if told.1.is_empty() { 0 } else { 8 };
-    ends(
-        alloc,
-        "const none none q",
-        ones(alloc, terms)?.as_slice(),
-        status,
-        told,
-    )
+    ends(alloc, "const none none q", query, status, told)
 }
 
 #[test]
-fn takes_fifty_terms(rt: HostRuntime) -> Result<(), Fail> {
-    assert!(rt; ends_of_ones(rt.alloc(), 50, ("[50]\n", ""))?);
-    assert!(rt; ends_of_ones(rt.alloc(), 51, ("", "query unbuilt\n"))?);
+fn takes_forty_parentheses(rt: HostRuntime) -> Result<(), Fail> {
+    let (most, more) = (nested(rt.alloc(), 40)?, nested(rt.alloc(), 41)?);
+    assert!(rt; ends_at(rt.alloc(), most.as_slice(), ("[1]\n", ""))?);
+    assert!(rt; ends_at(rt.alloc(), more.as_slice(), ("", "query S3 token 41\n"))?);
+    Ok(())
+}
+
+// A sum of so many terms is as high as they are many, and the statement is one higher: at most 60.
+#[test]
+fn takes_a_height_of_sixty(rt: HostRuntime) -> Result<(), Fail> {
+    let (most, more) = (ones(rt.alloc(), 59)?, ones(rt.alloc(), 60)?);
+    assert!(rt; ends_at(rt.alloc(), most.as_slice(), ("[59]\n", ""))?);
+    assert!(rt; ends_at(rt.alloc(), more.as_slice(), ("", "query S3 token 120\n"))?);
     Ok(())
 }
 

@@ -1,7 +1,7 @@
 //! The program `edgeql`: the words of its command line, the files that they name, standard output and standard error.
 #![tactic(auto)]
 
-use edge_run::{Outcome, run_words};
+use edge_run::{Outcome, memory_line, run_words};
 use ev_io::{FileShelf, OpenGate, Sink, StreamSink};
 use ev_value::{List, Text};
 use std::alloc::AllocError;
@@ -38,7 +38,7 @@ fn main(rt: HostRuntime) -> ExitCode {
             &OpenGate,
         ),
         Err(_) => {
-            let _ = err.put(Outcome::Memory.line().as_bytes());
+            let _ = err.put(memory_line().as_bytes());
             Outcome::Memory
         }
     };

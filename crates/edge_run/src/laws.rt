@@ -1,0 +1,22 @@
+//! Laws of query texts and of what runs come to.
+ghost use Rattle.std.specs.Prelude.{◌≡◌, ℕ, List, Option, Result};
+ghost use Rattle.ast.specs.declared.statement.Query.{Query};
+ghost use Rattle.const_ir.specs.declared.expr.Expr.{Expr};
+ghost use Rattle.edge_run.specs.Plan.{Plan, Verdict, Comes};
+ghost use Rattle.edge_run.specs.Query.{IsQuery, Decides};
+ghost use Rattle.edge_run.specs.Refusal.{Refusal};
+
+/// Each text spells at most one query.
+pub fn one_query()
+    ensures { (text : List ℕ) (a : Query) (b : Query) → IsQuery text a → IsQuery text b → a ≡ b }
+{}
+
+/// Of each text at most one thing is decided: its tree, or the one refusal with its one byte or token.
+pub fn one_decision()
+    ensures { (text : List ℕ) (a : Result Expr Refusal) (b : Result Expr Refusal) → Decides text a → Decides text b → a ≡ b }
+{}
+
+/// Over what the names hold, a run comes to at most one verdict.
+pub fn one_verdict()
+    ensures { (plan : Plan (List ℕ)) (files : List ℕ → Option (List ℕ)) (v : Verdict (List ℕ)) (w : Verdict (List ℕ)) → Comes files plan v → Comes files plan w → v ≡ w }
+{}

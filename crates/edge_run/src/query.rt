@@ -1,0 +1,86 @@
+//! The text of a query, decided: its tree, or why it is refused.
+ghost use Rattle.std.specs.Prelude.{◌≡◌, ◌≤◌, ◌<◌, ◌^◌, length};
+ghost use Rattle.const_build.specs.Built.{built_query};
+ghost use Rattle.edge_run.specs.Query.{query_limit, IsTokens, IsParsed, IsSurface, IsTree, IsDecided};
+
+use crate::outcome::{Doc, Outcome, QueryRefusal};
+use ast::Query;
+use const_build::{BuildError, build_query};
+use const_ir::Expr;
+use eql_parse::{SyntaxRefusal, parse_query};
+use ev_lex::{LexRefusal, Tokens, lex};
+use ev_value::Bytes;
+use exact::Rule;
+use std::alloc::Global;
+
+/// How many bytes a query may have.
+pub const QUERY_LIMIT: u64 = 1_048_576;
+
+// The tokens of a text.
+fn tokens(alloc: Global, text: &[u8]) -> Result<Tokens, Outcome>
+    requires { length text.now ≤ query_limit }
+    ensures { IsTokens text.now result }
+{
+    match lex(alloc, text) {
+        Ok(tokens) => Ok(tokens),
+        Err(LexRefusal::S1 { byte }) => Err(Outcome::QueryRefused(QueryRefusal::Lex { byte })),
+        Err(LexRefusal::Memory) => Err(Outcome::Memory),
+    }
+}
+
+// The end that tells a token that the grammar refuses.
+fn refused_token(rule: Rule, token: u32) -> Outcome
+    ensures { result ≡ Outcome.QueryRefused (QueryRefusal.Syntax rule token) }
+{
+    Outcome::QueryRefused(QueryRefusal::Syntax { rule, token })
+}
+
+// The surface tree that the tokens spell.
+fn parsed(alloc: Global, tokens: &Tokens) -> Result<Query, Outcome>
+    requires { length tokens.now < 2 ^ 32 }
+    ensures { IsParsed tokens.now result }
+{
+    match parse_query(alloc, tokens) {
+        Ok(query) => Ok(query),
+        Err(SyntaxRefusal::S2 { token }) => Err(refused_token(Rule::Unexpected, token)),
+        Err(SyntaxRefusal::S3 { token }) => Err(refused_token(Rule::TooDeep, token)),
+        Err(SyntaxRefusal::Memory) => Err(Outcome::Memory),
+    }
+}
+
+// The surface tree that the text spells.
+#[tactic(auto, using(crate::proofs::Decisions::few, crate::proofs::Decisions::surface))]
+fn surface(alloc: Global, text: &[u8]) -> Result<Query, Outcome>
+    requires { length text.now ≤ query_limit }
+    ensures { IsSurface text.now result }
+{
+    match tokens(alloc, text) {
+        Ok(tokens) => parsed(alloc, &tokens),
+        Err(outcome) => Err(outcome),
+    }
+}
+
+// The tree that the surface tree is built as.
+fn tree(alloc: Global, query: &Query) -> Result<Expr, Outcome>
+    ensures { IsTree (built_query query.now) result }
+{
+    match build_query(alloc, query) {
+        Ok(tree) => Ok(tree),
+        Err(BuildError::Unbuilt) => Err(Outcome::QueryRefused(QueryRefusal::Unbuilt)),
+        Err(BuildError::Memory) => Err(Outcome::Memory),
+    }
+}
+
+/// The tree of a query text, unless it is too long, spells no query, or one that is not built.
+#[tactic(auto, using(crate::proofs::Decisions::long, crate::proofs::Decisions::told_is_decided, crate::proofs::Decisions::tree_is_decided))]
+pub fn decide(alloc: Global, text: &Bytes) -> Result<Expr, Outcome>
+    ensures { IsDecided text.now result }
+{
+    if text.len() as u64 > QUERY_LIMIT {
+        return Err(Outcome::TooLong(Doc::Query));
+    }
+    match surface(alloc, text.as_slice()) {
+        Ok(query) => tree(alloc, &query),
+        Err(outcome) => Err(outcome),
+    }
+}
