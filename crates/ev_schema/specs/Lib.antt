@@ -1,0 +1,4 @@
+pub mod Facts
+pub mod Types
+pub mod Policies
+pub mod Pointers
