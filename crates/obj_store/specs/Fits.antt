@@ -1,6 +1,6 @@
 -- When a list of objects fits a schema.
 use Rattle.std.specs.Prelude.{◌≡◌, ℕ, nat_lt, Bool, true, false, List, [], ◌∷◌, length, flat_map, filter, Option, Some, None, slice_get, ◌≢◌}
-use Rattle.std.specs.List.{list_any, All, Contains}
+use Rattle.std.specs.List.{list_any, Contains}
 use Rattle.std.specs.Cmp.Lexicographic.{slice_cmp}
 use Rattle.std.specs.Ordering.{nat_cmp, is_lt}
 use Rattle.std.specs.Str.{bytes_eq}
@@ -32,10 +32,15 @@ use Rattle.obj_store.specs.declared.object.Target.{Target}
 use Rattle.obj_store.specs.Limits.{has_type, same, meets}
 use Rattle.obj_store.specs.Objects.{find, led_to, items_at}
 
+-- P of each element
+abbrev pub Each : {A : Type 0} → (A → Type 0) → List A → Type 0
+Each P [] = Unit {0}
+Each P (x ∷ more) = P x × Each P more
+
 -- each element stands before all that follow it, so none stands twice
 abbrev pub Ascend : {A : Type 0} → (A → A → Bool) → List A → Type 0
 Ascend before [] = Unit {0}
-Ascend before (x ∷ more) = All (λ y. before x y ≡ true) more × Ascend before more
+Ascend before (x ∷ more) = Each (λ y. before x y ≡ true) more × Ascend before more
 
 -- texts in byte order
 abbrev pub text_before : List ℕ → List ℕ → Bool
@@ -65,12 +70,12 @@ module _ (s : Schema) where
   FitsTarget os info t target =
       ((o : Object) × (find os target.id ≡ Some o) × (is_subtype s.types o.ty t ≡ true))
       × Ascend (λ a b. text_before a.name b.name) target.properties
-      × All (FitsProperty info.link_props) target.properties
+      × Each (FitsProperty info.link_props) target.properties
 
   -- What is stored of a pointer is of its type, and each value meets each of the pointer's constraints.
   abbrev pub FitsValue : List Object → PtrInfo → Ty → PtrValue → Type 0
-  FitsValue os info (ty.Scalar t) (value.Vals vs) = All (λ v. (has_type t v ≡ true) × All (λ l. meets l v ≡ true) info.limits) vs
-  FitsValue os info (ty.Object t) (value.Links ts) = Ascend (λ a b. nat_lt a.id b.id) ts × All (FitsTarget os info t) ts
+  FitsValue os info (ty.Scalar t) (value.Vals vs) = Each (λ v. (has_type t v ≡ true) × Each (λ l. meets l v ≡ true) info.limits) vs
+  FitsValue os info (ty.Object t) (value.Links ts) = Ascend (λ a b. nat_lt a.id b.id) ts × Each (FitsTarget os info t) ts
   FitsValue os info _ _ = ⊥
 
   -- An entry is of a stored pointer of the object's type, and not empty.
@@ -89,14 +94,14 @@ pub record FitsObject (s : Schema) (bounds : PtrInfo → Card) (os : List Object
   pub known : (info : TypeInfo) × (slice_get s.types o.ty.0 ≡ Some info) × (info.is_abstract ≡ false)
   -- its entries stand in byte order of the pointers' names, each pointer once
   pub in_order : Ascend (entry_before s) o.values
-  pub entries : All (FitsEntry s os o.ty) o.values
+  pub entries : Each (FitsEntry s os o.ty) o.values
   pub within : (p : PtrId) (info : PtrInfo) (u : Ty) → Contains (listed_pointers s.types o.ty) p → slice_get s.pointers p.0 ≡ Some info → stored_type info.body ≡ Some u → Within (bounds info) (length (items_at o p))
 
 -- A list of objects fits, where each stored pointer has as many values as `bounds` says.
 pub record FitsBy (s : Schema) (bounds : PtrInfo → Card) (os : List Object) : Type 0 where
   -- in order of id, so that no id stands twice
   pub in_order : Ascend (λ (a b : Object). nat_lt a.id b.id) os
-  pub each : All (FitsObject s bounds os) os
+  pub each : Each (FitsObject s bounds os) os
   -- of an exclusive pointer no value stands twice over all objects of the declaring type and those that extend it
   pub once : (p : PtrId) (info : PtrInfo) → slice_get s.pointers p.0 ≡ Some info → list_any is_exclusive info.limits ≡ true →
       has_repeat same (flat_map (λ o. items_at o p) (filter (λ (o : Object). is_subtype s.types o.ty info.origin) os)) ≡ false

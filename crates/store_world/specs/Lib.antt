@@ -1,3 +1,4 @@
 pub mod Steps
 pub mod StoreWorld
 pub mod View
+pub mod Worked

@@ -1,5 +1,5 @@
 -- Which objects a caller sees.
-use Rattle.std.specs.Prelude.{ℕ, ◌&&◌, not, Bool, true, false, List, [], ◌∷◌, filter, map, Option, Some, None, slice_get, if◌then◌else◌}
+use Rattle.std.specs.Prelude.{ℕ, ◌==◌, ◌&&◌, not, Bool, true, false, List, [], ◌∷◌, filter, map, Option, Some, None, slice_get, if◌then◌else◌}
 use Rattle.std.specs.List.{list_any}
 use Rattle.ev_value.specs.Item.{values}
 use Rattle.ev_value.specs.declared.args.Args.{Args}
@@ -9,13 +9,13 @@ use Rattle.ev_schema.specs.declared.policy.Policy.{Policy}
 use Rattle.ev_schema.specs.declared.policy.PolicyKind.{PolicyKind}
 use Rattle.ev_schema.specs.declared.policy.PolicyKind.TheVariants as kind
 use Rattle.ev_schema.specs.declared.schema.Schema.{Schema}
-use Rattle.ev_schema.specs.Policies.{has_rules, rules_of}
+use Rattle.ev_schema.specs.Policies.{rules_of}
 use Rattle.obj_store.specs.declared.object.Entry.{Entry}
 use Rattle.obj_store.specs.declared.object.Object.{Object}
 use Rattle.obj_store.specs.declared.object.PtrValue.{PtrValue}
 use Rattle.obj_store.specs.declared.object.PtrValue.TheVariants as value
 use Rattle.obj_store.specs.declared.object.Target.{Target}
-use Rattle.obj_store.specs.Objects.{find, led_to, as_value}
+use Rattle.obj_store.specs.Objects.{find, as_value}
 use Rattle.eql_sem.specs.Operations.{is_empty}
 use Rattle.store_world.specs.StoreWorld.{values_for, world_of}
 
@@ -56,24 +56,41 @@ module _ (s : Schema) (os : List Object) (args : Args) where
   is_shown None = false
   is_shown (Some o) = shown o
 
-  -- the targets that are shown, with their properties
-  abbrev pub shown_targets : List Target → List Target
-  shown_targets ts = filter (λ (t : Target). is_shown (find os t.id)) ts
+  -- whether the object with an id is there and shown
+  abbrev pub seen : ℕ → Bool
+  seen id = is_shown (find os id)
 
-  abbrev pub cut_value : PtrValue → PtrValue
-  cut_value (value.Vals vs) = value.Vals vs
-  cut_value (value.Links ts) = value.Links (shown_targets ts)
+-- the targets that are seen, with their properties
+abbrev pub cut_targets : (ℕ → Bool) → List Target → List Target
+cut_targets seen ts = filter (λ (t : Target). seen t.id) ts
 
-  abbrev pub cut_entry : Entry → Entry
-  cut_entry e = record { pointer = e.pointer; value = cut_value e.value }
+abbrev pub cut_value : (ℕ → Bool) → PtrValue → PtrValue
+cut_value seen (value.Vals vs) = value.Vals vs
+cut_value seen (value.Links ts) = value.Links (cut_targets seen ts)
 
-  abbrev pub is_filled : Entry → Bool
-  is_filled e = not (is_empty (led_to e.value))
+abbrev pub cut_entry : (ℕ → Bool) → Entry → Entry
+cut_entry seen e = record { pointer = e.pointer; value = cut_value seen e.value }
 
-  -- an object with its links cut to shown targets; a link without any is empty
-  abbrev pub cut : Object → Object
-  cut o = record { id = o.id; ty = o.ty; values = filter is_filled (map cut_entry o.values) }
+abbrev pub is_filled : PtrValue → Bool
+is_filled (value.Vals vs) = not (is_empty vs)
+is_filled (value.Links ts) = not (is_empty ts)
 
-  -- The view: the objects that are shown, each with its links cut. Nothing else changes.
-  abbrev pub view_of : List Object
-  view_of = map cut (filter shown os)
+-- an object with its links cut to the targets that are seen; a link without any is empty
+abbrev pub cut : (ℕ → Bool) → Object → Object
+cut seen o = record { id = o.id; ty = o.ty; values = filter (λ (e : Entry). is_filled e.value) (map (cut_entry seen) o.values) }
+
+-- The view: the objects that are shown, each with its links cut to them. Nothing else changes.
+abbrev pub view_of : Schema → List Object → Args → List Object
+view_of s os args = map (cut (seen s os args)) (filter (shown s os args) os)
+
+-- ---- as the code has it
+
+-- the flag that stands beside the first object with an id
+abbrev pub flag_for : List Object → List Bool → ℕ → Bool
+flag_for (o ∷ os) (flag ∷ flags) id = if o.id == id then flag else flag_for os flags id
+flag_for _ _ id = false
+
+-- the objects beside a true flag, with their links cut
+abbrev pub flagged : (ℕ → Bool) → List Object → List Bool → List Object
+flagged seen (o ∷ os) (flag ∷ flags) = if flag then cut seen o ∷ flagged seen os flags else flagged seen os flags
+flagged seen _ _ = []

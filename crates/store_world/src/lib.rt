@@ -2,10 +2,15 @@
 //! show.
 #![tactic(auto)]
 
+mod answers;
 mod column;
+mod computing;
+mod cutting;
 mod links;
 mod properties;
+mod shown;
 mod store_world;
 
+pub use answers::{answer_over_all, answer_over_view, view};
 pub use column::Column;
 pub use store_world::StoreWorld;

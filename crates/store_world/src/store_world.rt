@@ -13,6 +13,7 @@ use obj_store::Object;
 use std::alloc::{AllocError, Global};
 
 /// Objects in order of id under a schema, with a caller's arguments, and with what computed pointers give.
+#[derive(Clone, Copy)]
 pub struct StoreWorld<'a> {
     pub schema: &'a Schema,
     pub objects: &'a [Object],
