@@ -9,12 +9,11 @@ use Rattle.ev_value.specs.declared.value.Val.{Val}
 use Rattle.ev_value.specs.declared.value.ScalarTy.{ScalarTy}
 use Rattle.ev_list.specs.declared.param.Param.{Param}
 use Rattle.ev_list.specs.declared.order.Absent.{Absent}
-use Rattle.ev_list.specs.declared.order.KeyOrder.{KeyOrder}
 use Rattle.ev_list.specs.declared.order.Direction.TheVariants as direction
-use Rattle.core_ir.specs.Occurrences.{direct, all, all_of_clause, all_of_keys}
+use Rattle.core_ir.specs.Occurrences.{direct, all}
 use Rattle.core_ir.specs.Path.{subject}
 use Rattle.core_ir.specs.Occurrences.{all_of_key}
-use Rattle.core_ir.specs.Parts.{all_of_rows, all_if_there}
+use Rattle.core_ir.specs.Parts.{all_if_there}
 use Rattle.path_scope.specs.Factored.{factored}
 use Rattle.core_ir.proofs.AllLaws as occurring
 use Rattle.core_ir.specs.declared.tree.Occurrence.{Occurrence}
@@ -27,7 +26,6 @@ use Rattle.core_ir.specs.declared.tree.Select.{Select, out-Select, roll-Select, 
 use Rattle.core_ir.specs.declared.tree.Key.{Key}
 use Rattle.core_ir.specs.declared.tree.Key.TheVariants as key
 use Rattle.core_ir.specs.declared.tree.Expr.{Expr}
-use Rattle.core_ir.specs.declared.tree.Expr as e
 use Rattle.core_ir.specs.declared.tree.Expr.TheVariants as form
 use Rattle.core_ir.specs.declared.tree.Expr.TheBlock as block
 use denote.Hole.Carrier as carrier
@@ -38,6 +36,7 @@ use Rattle.eql_sem.specs.declared.binding.Name.TheVariants as name
 use Rattle.eql_sem.specs.declared.form.Form.{Form}
 use Rattle.eql_sem.specs.declared.form.Form.TheVariants as shape
 use Rattle.eql_sem.specs.declared.form.Form.TheBlock as shapes
+use Rattle.eql_sem.specs.declared.form.FormField.{FormField}
 use Rattle.eql_sem.specs.declared.form.Formed.{Formed}
 use Rattle.eql_sem.specs.Bindings.{paths_of, pick, within, given}
 use Rattle.eql_sem.specs.Forms.{bare, strip, dress, subject_of}
@@ -342,7 +341,7 @@ module _ (w : World) where
   fields_row : (es : List Element) (ns : List Name) (b : List Bound) → field_lists w (block.hidden-the_row-Element-3 es) ns b ≡ fields_of w es ns b
   unfolding items carrier.hidden block.hidden-the_row-Element-3
   fields_row [] ns b = refl
-  fields_row (x ∷ xs) ns b = ap (λ l. field_of w x.name (items_in w x.value.body ns b) ∷ l) (fields_row xs ns b)
+  fields_row (x ∷ xs) ns b = ap (λ l. field_of x.name (items_in w x.value.body ns b) ∷ l) (fields_row xs ns b)
 
   pub finish_tuple : (n : ℕ) (xs : List Expr) (ns : List Name) (b : List Bound) (fs : List Form)
       → finish w (form.Tuple n xs) ns b (shape.Tuple fs) ≡ bind (gathered (finished_all w xs ns b fs)) (λ gs. one (shape.Tuple gs))
@@ -354,3 +353,85 @@ module _ (w : World) where
       ≡ bind (gathered (fields_of w es (name.Prefix (subject k) ∷ ns) (subject_of f ∷ b))) (λ gs. one (shape.Shape gs))
   unfolding items
   finish_shaped n x k es ns b f = ap (λ l. bind (gathered l) (λ gs. one (shape.Shape gs))) (fields_row es (name.Prefix (subject k) ∷ ns) (subject_of f ∷ b))
+
+  pub finish_literal : (n : ℕ) (v : Val) (ns : List Name) (b : List Bound) (f : Form) → finish w (form.Literal n v) ns b f ≡ one f
+  unfolding items
+  finish_literal n v ns b f = refl
+
+  pub finish_param : (n : ℕ) (p : Param) (ns : List Name) (b : List Bound) (f : Form) → finish w (form.Param n p) ns b f ≡ one f
+  unfolding items
+  finish_param n p ns b f = refl
+
+  pub finish_global : (n : ℕ) (g : List ℕ) (ns : List Name) (b : List Bound) (f : Form) → finish w (form.Global n g) ns b f ≡ one f
+  unfolding items
+  finish_global n g ns b f = refl
+
+  pub finish_path : (n : ℕ) (o : Occurrence) (ns : List Name) (b : List Bound) (f : Form) → finish w (form.Path n o) ns b f ≡ one f
+  unfolding items
+  finish_path n o ns b f = refl
+
+  pub finish_on_base : (n : ℕ) (s : Scope) (o : Occurrence) (ns : List Name) (b : List Bound) (f : Form) → finish w (form.OnBase n s o) ns b f ≡ one f
+  unfolding items
+  finish_on_base n s o ns b f = refl
+
+  pub finish_operation : (n : ℕ) (op : Op) (xs : List Expr) (ns : List Name) (b : List Bound) (f : Form) → finish w (form.Operation n op xs) ns b f ≡ one f
+  unfolding items
+  finish_operation n op xs ns b f = refl
+
+  pub finish_plus : (n : ℕ) (x : Expr) (ns : List Name) (b : List Bound) (f : Form) → finish w (form.Plus n x) ns b f ≡ one f
+  unfolding items
+  finish_plus n x ns b f = refl
+
+  pub finish_cast : (n : ℕ) (t : ScalarTy) (x : Expr) (ns : List Name) (b : List Bound) (f : Form) → finish w (form.Cast n t x) ns b f ≡ one f
+  unfolding items
+  finish_cast n t x ns b f = refl
+
+  pub finish_optional_equal : (n : ℕ) (negated : Bool) (x : Expr) (y : Expr) (ns : List Name) (b : List Bound) (f : Form) → finish w (form.OptionalEqual n negated x y) ns b f ≡ one f
+  unfolding items
+  finish_optional_equal n negated x y ns b f = refl
+
+  pub finish_in_set : (n : ℕ) (negated : Bool) (x : Expr) (s : Scope) (ns : List Name) (b : List Bound) (f : Form) → finish w (form.In n negated x s) ns b f ≡ one f
+  unfolding items
+  finish_in_set n negated x s ns b f = refl
+
+  pub finish_of_set : (n : ℕ) (g : SetFunction) (s : Scope) (ns : List Name) (b : List Bound) (f : Form) → finish w (form.OfSet n g s) ns b f ≡ one f
+  unfolding items
+  finish_of_set n g s ns b f = refl
+
+  pub finish_union : (n : ℕ) (s : Scope) (t : Scope) (ns : List Name) (b : List Bound) (f : Form) → finish w (form.Union n s t) ns b f ≡ one f
+  unfolding items
+  finish_union n s t ns b f = refl
+
+  pub finish_set : (n : ℕ) (xs : List Scope) (ns : List Name) (b : List Bound) (f : Form) → finish w (form.Set n xs) ns b f ≡ one f
+  unfolding items
+  finish_set n xs ns b f = refl
+
+  pub finish_coalesce : (n : ℕ) (x : Expr) (s : Scope) (ns : List Name) (b : List Bound) (f : Form) → finish w (form.Coalesce n x s) ns b f ≡ one f
+  unfolding items
+  finish_coalesce n x s ns b f = refl
+
+  pub finish_if : (n : ℕ) (c : Conditional) (ns : List Name) (b : List Bound) (f : Form) → finish w (form.If n c) ns b f ≡ one f
+  unfolding items
+  finish_if n c ns b f = refl
+
+  pub finish_select : (n : ℕ) (xs : List Alias) (s : Select) (ns : List Name) (b : List Bound) (f : Form) → finish w (form.Select n xs s) ns b f ≡ one f
+  unfolding items
+  finish_select n xs s ns b f = refl
+
+  pub finish_for : (n : ℕ) (xs : List Alias) (k : ℕ) (s : Scope) (t : Scope) (ns : List Name) (b : List Bound) (f : Form) → finish w (form.For n xs k s t) ns b f ≡ one f
+  unfolding items
+  finish_for n xs k s t ns b f = refl
+
+  pub finish_tuple_value : (n : ℕ) (xs : List Expr) (ns : List Name) (b : List Bound) (v : Val) → finish w (form.Tuple n xs) ns b (shape.Value v) ≡ one (shape.Value v)
+  unfolding items
+  finish_tuple_value n xs ns b v = refl
+
+  pub finish_tuple_shape : (n : ℕ) (xs : List Expr) (ns : List Name) (b : List Bound) (fs : List FormField) → finish w (form.Tuple n xs) ns b (shape.Shape fs) ≡ one (shape.Shape fs)
+  unfolding items
+  finish_tuple_shape n xs ns b fs = refl
+
+pub ruleset finish_forms = (finish_tuple, finish_tuple_value, finish_tuple_shape, finish_shaped, finish_literal, finish_param, finish_global, finish_path, finish_on_base, finish_operation, finish_plus, finish_cast, finish_optional_equal, finish_in_set, finish_of_set, finish_union, finish_set, finish_coalesce, finish_if, finish_select, finish_for)
+
+pub ruleset item_forms = (items_literal, items_param, items_global, items_path, items_on_base, items_operation, items_plus, items_cast, items_tuple, items_optional_equal, items_in_set, items_of_set, items_union, items_set, items_coalesce, items_if, items_shaped, items_select, items_for)
+
+pub ruleset key_forms = (key_ascending, key_descending, order_ascending, order_descending)

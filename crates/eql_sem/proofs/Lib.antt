@@ -1,6 +1,4 @@
 pub mod Products
 pub mod Equations
-pub mod Nearest
-pub mod BaseLaws
-pub mod Forms
-pub mod Extending
+pub mod LongestPrefix
+pub mod Cutting

@@ -1,6 +1,6 @@
 -- Bindings: what each name stands for. The names in scope and what they stand for are two lists of one length, the
 -- newest first.
-use Rattle.std.specs.Prelude.{ℕ, zero, suc, ◌==◌, Bool, true, false, List, [], ◌∷◌, drop, length, map, Option, Some, None, if◌then◌else◌}
+use Rattle.std.specs.Prelude.{ℕ, zero, suc, ◌==◌, Bool, false, List, [], ◌∷◌, drop, Option, Some, None, if◌then◌else◌}
 use Rattle.core_ir.specs.declared.path.Path.{Path}
 use Rattle.core_ir.specs.declared.path.Step.{Step}
 use Rattle.core_ir.specs.Path.{path_eq, prefix}

@@ -7,5 +7,3 @@ pub mod Scopes
 pub mod Selects
 pub mod Meaning
 pub mod Parts
-pub mod Recursion
-pub mod Bases

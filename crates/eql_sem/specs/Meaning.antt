@@ -1,6 +1,6 @@
 -- What an expression means: the list of its items, where names stand for things, over a world.
-use Rattle.std.specs.Prelude.{ℕ, ◌==◌, Bool, true, false, not, ◌&&◌, List, [], ◌∷◌, ◌++◌, map, Option, Some, None, if◌then◌else◌}
-use Rattle.ev_value.specs.Item.{bind, both, one, all_of, collect}
+use Rattle.std.specs.Prelude.{ℕ, ◌==◌, Bool, true, false, not, ◌&&◌, List, [], ◌∷◌, ◌++◌, map, Option, if◌then◌else◌}
+use Rattle.ev_value.specs.Item.{bind, one, collect}
 use Rattle.ev_value.specs.declared.item.Item.{Item}
 use Rattle.ev_value.specs.declared.value.Val.{Val}
 use Rattle.ev_value.specs.declared.value.Val as val
@@ -9,16 +9,12 @@ use Rattle.ev_list.specs.declared.order.KeyOrder.{KeyOrder}
 use Rattle.ev_list.specs.declared.order.Keyed.{Keyed}
 use Rattle.core_ir.specs.declared.path.Root.{Root}
 use Rattle.core_ir.specs.declared.path.Root.TheVariants as root
-use Rattle.core_ir.specs.declared.phase.Core.{Core}
-use Rattle.core_ir.specs.declared.tree.Occurrence.{Occurrence}
 use Rattle.core_ir.specs.declared.tree.Expr.{Expr, Row_of-Expr, end_of-Expr, more_of-Expr, Row_of-Scope, end_of-Scope, more_of-Scope, Row_of-Alias, end_of-Alias, more_of-Alias, Row_of-Element, end_of-Element, more_of-Element}
 use Rattle.core_ir.specs.declared.tree.Expr as e
 use Rattle.core_ir.specs.declared.tree.Select.{Select', Held-Select-filter, None', Some', Row_of-Key, end_of-Key, more_of-Key}
 use Rattle.core_ir.specs.declared.tree.Key as key
-use Rattle.core_ir.specs.declared.tree.Direct.{Direct}
 use Rattle.core_ir.specs.Occurrences.{direct, all, all_of_clause, all_of_keys}
 use Rattle.core_ir.specs.Path.{subject, variable}
-use Rattle.path_scope.specs.declared.prefix.Prefix.{Prefix}
 use Rattle.path_scope.specs.Factored.{factored}
 use Rattle.eql_sem.specs.declared.binding.Name.{Name}
 use Rattle.eql_sem.specs.declared.binding.Name.TheVariants as name
@@ -33,7 +29,8 @@ use Rattle.eql_sem.specs.Bindings.{paths_of, pick, within, given}
 use Rattle.eql_sem.specs.Forms.{bare, strip, dress, subject_of}
 use Rattle.eql_sem.specs.Operations.{gathered, operated, cast_to, tupled, optional_equal, in_set, optional, of_set, coalesced, chosen}
 use Rattle.eql_sem.specs.Scopes.{Gives, Bases, extensions, scope}
-use Rattle.eql_sem.specs.Selects.{Row, first_of, when, finished}
+use Rattle.eql_sem.specs.Selects.{first_of, keyed_rows, when, finished}
+use Rattle.eql_sem.specs.declared.row.Row.{Row}
 use Rattle.eql_sem.specs.World.{World}
 
 -- ---- clauses
@@ -69,6 +66,10 @@ abbrev pub base_number : Root → ℕ
 base_number (root.Base k) = k
 base_number _ = 0
 
+-- a field with the forms of its items
+abbrev pub field_of : List ℕ → List (Item Formed) → List (Item FormField)
+field_of n xs = collect (λ is. one (record { name = n; forms = map (λ i. i.form) is })) xs
+
 -- ---- scopes and statements
 
 module _ (w : World) where
@@ -88,17 +89,13 @@ module _ (w : World) where
   abbrev pub items_of : Expr → Bases → Gives Formed → Finishes → Gives Formed
   items_of x bases gives finishes = scope w (direct x false) (all x) bases (λ ns b. bind (gives ns b) (made finishes ns b))
 
-  -- a field with the forms of its items
-  abbrev pub field_of : List ℕ → List (Item Formed) → List (Item FormField)
-  field_of n xs = collect (λ is. one (record { name = n; forms = map (λ i. i.form) is })) xs
-
   -- The rows of a select: each item of the subject for which the condition has a true item, with its keys. The subject
   -- is bound to the item there.
   abbrev pub rows_of : ℕ → Gives Formed → Gives Val → Gives (List (Option Val)) → Gives (Keyed Row)
   rows_of k gives condition keys ns b =
       bind (gives ns b) (λ x.
       let ns' = name.Prefix (subject k) ∷ ns in let b' = bound.One x.value ∷ b in
-      when (condition ns' b') (bind (keys ns' b') (λ ks. one (record { keys = ks; value = record { now = b; item = x } }))))
+      when (condition ns' b') (keyed_rows b x (keys ns' b')))
 
   unfoldable mutual
     -- The items of an expression, each with its form so far: shapes outside of statements are made by `finish`.

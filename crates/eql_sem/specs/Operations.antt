@@ -2,7 +2,7 @@
 use Rattle.std.specs.Prelude.{Bool, true, false, not, List, [], ◌∷◌, map, Option, Some, None, if◌then◌else◌}
 use Rattle.std.specs.List.{list_any}
 use Rattle.std.specs.Ordering.{is_eq}
-use Rattle.ev_value.specs.Item.{bind, both, one, all_of, collect}
+use Rattle.ev_value.specs.Item.{bind, both, one, all_of, collect, has_fault, faults, only_faults}
 use Rattle.ev_value.specs.Operator.{item_of_op, bool_item}
 use Rattle.ev_value.specs.Casts.{item_of_cast}
 use Rattle.ev_value.specs.Order.{val_cmp}
@@ -12,14 +12,12 @@ use Rattle.ev_value.specs.declared.item.Item.TheVariants as item
 use Rattle.ev_value.specs.declared.operator.Op.{Op}
 use Rattle.ev_value.specs.declared.value.ScalarTy.{ScalarTy}
 use Rattle.ev_value.specs.declared.value.Val.{Val}
-use Rattle.ev_value.specs.declared.value.Val as val
 use Rattle.ev_value.specs.declared.value.Val.TheVariants as made
 use Rattle.ev_list.specs.Aggregate.{count_item, sum_item, least, greatest, any_item, all_item, is_true}
 use Rattle.ev_list.specs.Occurrence.{distinct}
 use Rattle.ev_list.specs.Single.{single_fault, exists_fault, distinct_fault}
 use Rattle.core_ir.specs.declared.tree.SetFunction.{SetFunction}
 use Rattle.core_ir.specs.declared.tree.SetFunction.TheVariants as function
-use Rattle.eql_sem.specs.declared.form.Form.{Form}
 use Rattle.eql_sem.specs.declared.form.Form.TheVariants as form
 use Rattle.eql_sem.specs.declared.form.Formed.{Formed}
 
@@ -33,6 +31,10 @@ product (xs ∷ more) = bind xs (λ x. bind (product more) (λ rest. one (x ∷ 
 abbrev pub gathered : {A : Type 0} → List (List (Item A)) → List (Item (List A))
 gathered [] = one []
 gathered (xs ∷ more) = both xs (gathered more) (λ x rest. one (x ∷ rest))
+
+-- the faults of a second list, where the first one has some
+abbrev pub later_faults : {A B C : Type 0} → List (Item A) → List (Item B) → List (Item C)
+later_faults xs ys = if has_fault xs then only_faults (faults ys) else []
 
 -- an operator or a plain function
 abbrev pub operated : Op → List (List (Item Val)) → List (Item Val)
@@ -120,6 +122,10 @@ of_set f xs = collect (of_values f) xs
 abbrev pub coalesced : List (Item Val) → List (Item Val) → List (Item Val)
 coalesced first second = collect (λ vs. if is_empty vs then second else all_of vs) first
 
+-- for each truth the list of one branch, and only that one's
+abbrev pub branch_items : List Val → List (Item Val) → List (Item Val) → List (Item Val)
+branch_items cs value other = bind (all_of cs) (λ c. if is_true c then value else other)
+
 -- `if`: for each item of the condition the list of one branch, and only that one's
 abbrev pub chosen : List (Item Val) → List (Item Val) → List (Item Val) → List (Item Val)
-chosen condition value other = collect (λ cs. bind (all_of cs) (λ c. if is_true c then value else other)) condition
+chosen condition value other = collect (λ cs. branch_items cs value other) condition

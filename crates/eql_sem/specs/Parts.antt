@@ -1,5 +1,5 @@
 -- The meaning of scopes and of lists of parts, as the code sees them.
-use Rattle.std.specs.Prelude.{ℕ, ◌==◌, if◌then◌else◌, Bool, true, false, not, ◌&&◌, List, [], ◌∷◌, ◌++◌, map, flat_map, Option, Some, None}
+use Rattle.std.specs.Prelude.{ℕ, ◌==◌, if◌then◌else◌, Bool, true, false, not, ◌&&◌, List, [], ◌∷◌, map, flat_map, Option, Some, None}
 use Rattle.ev_value.specs.Item.{bind, one, collect}
 use Rattle.ev_value.specs.declared.item.Item.{Item}
 use Rattle.ev_value.specs.declared.value.Val.{Val}
@@ -7,7 +7,7 @@ use Rattle.ev_value.specs.declared.value.Val as val
 use Rattle.ev_list.specs.declared.order.Keyed.{Keyed}
 use Rattle.core_ir.specs.Occurrences.{direct}
 use Rattle.core_ir.specs.Parts.{all_of_rows}
-use Rattle.core_ir.specs.Path.{variable}
+use Rattle.core_ir.specs.Path.{subject, variable}
 use Rattle.core_ir.specs.declared.tree.Alias.{Alias}
 use Rattle.core_ir.specs.declared.tree.Element.{Element}
 use Rattle.core_ir.specs.declared.tree.Expr.{Expr}
@@ -20,7 +20,8 @@ use Rattle.eql_sem.specs.Bindings.{paths_of, turns, within}
 use Rattle.eql_sem.specs.Meaning.{order_of, base_among, values_of, items_of, made, rows_of, field_of, items, bases, finish, key_list}
 use Rattle.eql_sem.specs.Operations.{gathered, is_empty}
 use Rattle.eql_sem.specs.Scopes.{Bases, Gives, extensions, value_list}
-use Rattle.eql_sem.specs.Selects.{Row, first_of, finished}
+use Rattle.eql_sem.specs.Selects.{first_of, keyed_rows, when, finished}
+use Rattle.eql_sem.specs.declared.row.Row.{Row}
 use Rattle.eql_sem.specs.World.{World}
 use Rattle.eql_sem.specs.declared.binding.Bound.{Bound}
 use Rattle.eql_sem.specs.declared.binding.Bound.TheVariants as bound
@@ -81,7 +82,7 @@ module _ (w : World) where
   scopes_values ss ns b = flat_map (λ s. values_in s.body ns b) ss
 
   abbrev pub fields_of : List Element → List Name → List Bound → List (List (Item FormField))
-  fields_of es ns b = map (λ x. field_of w x.name (items_in x.value.body ns b)) es
+  fields_of es ns b = map (λ x. field_of x.name (items_in x.value.body ns b)) es
 
   abbrev pub keys_of : List Key → List Name → List Bound → List (List (Item (Option Val)))
   keys_of ks ns b = map (λ k. first_of (key_list w k ns b)) ks
@@ -113,6 +114,12 @@ module _ (w : World) where
   rows_under s = let r = out-Select s in
       rows_of w r.number (items w r.subject) (condition_values r.filter) (λ ns b. gathered (keys_of r.keys ns b))
 
+  -- the rows of a select for one item of its subject
+  abbrev pub rows_of_item : Select → List Name → List Bound → Formed → List (Item (Keyed Row))
+  rows_of_item s ns b x = let r = out-Select s in
+      let ns' = name.Prefix (subject r.number) ∷ ns in let b' = bound.One x.value ∷ b in
+      when (condition_values r.filter ns' b') (keyed_rows b x (gathered (keys_of r.keys ns' b')))
+
   -- the rows of a select
   abbrev pub all_rows : Select → List Prefix → Gives (Keyed Row)
   all_rows s fs ns b = bind (extensions w (base_among (bases w (out-Select s).subject)) fs ns b) (rows_under s (within fs ns))
@@ -122,6 +129,10 @@ module _ (w : World) where
   selected s ns b = let fs = prefixes_of_select s ns in let r = out-Select s in
       finished (is_cut_select s) (clause_values r.offset ns b) (clause_values r.limit ns b) (map order_of r.keys) (all_rows s fs ns b)
       (λ row. made w (finish w r.subject) (within fs ns) row.now row.item)
+
+  -- what is made of a row that is left
+  abbrev pub row_made : Select → List Name → Row → List (Item Formed)
+  row_made s ns row = made w (finish w (out-Select s).subject) ns row.now row.item
 
   -- a `for` behind its aliases
   abbrev pub repeated : ℕ → Expr → Expr → Gives Formed

@@ -1,5 +1,5 @@
 -- How a scope binds its prefixes.
-use Rattle.std.specs.Prelude.{ℕ, ◌-◌, slice_get, Bool, List, [], ◌∷◌, length, map, Option, Some, None}
+use Rattle.std.specs.Prelude.{ℕ, ◌-◌, slice_get, List, [], ◌∷◌, length, Option, Some, None}
 use Rattle.ev_value.specs.Item.{bind, one, all_of}
 use Rattle.ev_value.specs.declared.item.Item.{Item}
 use Rattle.ev_value.specs.declared.value.Val.{Val}

@@ -11,11 +11,8 @@ use Rattle.ev_list.specs.declared.order.KeyOrder.{KeyOrder}
 use Rattle.ev_list.specs.declared.order.Keyed.{Keyed}
 use Rattle.eql_sem.specs.declared.binding.Bound.{Bound}
 use Rattle.eql_sem.specs.declared.form.Formed.{Formed}
-
--- a row: what the names in scope stand for, and an item of the subject
-pub record Row : Type 0 where
-  pub now : List Bound
-  pub item : Formed
+use Rattle.eql_sem.specs.declared.row.Range.{Range}
+use Rattle.eql_sem.specs.declared.row.Row.{Row}
 
 abbrev pub head_of : {A : Type 0} → List A → Option A
 head_of [] = None
@@ -29,12 +26,33 @@ first_of xs = collect (λ vs. one (head_of vs)) xs
 abbrev pub when : {X : Type 0} → List (Item Val) → List (Item X) → List (Item X)
 when condition xs = bind (collect (λ vs. if list_any is_true vs then one tt else []) condition) (λ (u : Unit {0}). xs)
 
+-- a row with each list of keys
+abbrev pub keyed_rows : List Bound → Formed → List (Item (List (Option Val))) → List (Item (Keyed Row))
+keyed_rows b x keys = bind keys (λ ks. one (record { keys = ks; value = record { now = b; item = x } }))
+
+-- the rows of a list without their keys
+abbrev pub plain_rows : List (Item (Keyed Row)) → List (Item Row)
+plain_rows rows = bind rows (λ x. one x.value)
+
+-- what is cut out of the rows in order; the faults alone where there are some
+abbrev pub cut_rows : List KeyOrder → Option ℕ → Option ℕ → List (Item (Keyed Row)) → List (Item Row)
+cut_rows orders o l rows = collect (λ xs. all_of (section o l (keyless (in_order orders xs)))) rows
+
+-- what follows for an offset and a limit: their faults where there are some, else what f makes of both
+abbrev pub ranged : List (Item Val) → List (Item Val) → (Option ℕ → Option ℕ → List (Item Formed)) → List (Item Formed)
+ranged offset limit f = both (first_of offset) (first_of limit) (λ x y. both (limit_of x ∷ []) (limit_of y ∷ []) f)
+
+-- what the first values of an offset and of a limit ask for
+abbrev pub range_of : Option Val → Option Val → List (Item Range)
+range_of x y = both (limit_of x ∷ []) (limit_of y ∷ []) (λ o l. one (record { offset = o; limit = l }))
+
+-- what the lists of an offset and of a limit ask for
+abbrev pub ranges : List (Item Val) → List (Item Val) → List (Item Range)
+ranges offset limit = both (first_of offset) (first_of limit) range_of
+
 -- The rows that a statement leaves, without an order, an offset and a limit, or with some of them, and what is made of
 -- each. In the second case the faults of offset and limit are the whole list; else the faults among rows and keys are;
 -- else the rows are put in order and cut.
 abbrev pub finished : Bool → List (Item Val) → List (Item Val) → List KeyOrder → List (Item (Keyed Row)) → (Row → List (Item Formed)) → List (Item Formed)
-finished false offset limit orders rows made = bind (bind rows (λ x. one x.value)) made
-finished true offset limit orders rows made =
-    both (first_of offset) (first_of limit) (λ x y.
-    both (limit_of x ∷ []) (limit_of y ∷ []) (λ o l.
-    bind (collect (λ xs. all_of (section o l (keyless (in_order orders xs)))) rows) made))
+finished false offset limit orders rows made = bind (plain_rows rows) made
+finished true offset limit orders rows made = ranged offset limit (λ o l. bind (cut_rows orders o l rows) made)

@@ -27,6 +27,7 @@ pub enum Bound {
 }
 
 impl Name {
+    /// The same name, in memory of its own.
     pub fn copied(&self, alloc: Global) -> Result<Name, AllocError>
         ensures { IfOk result (λ n. n ≡ self.now) }
     {
@@ -36,6 +37,7 @@ impl Name {
         }
     }
 
+    /// Whether it is that name.
     pub fn same(&self, other: &Name) -> bool
         ensures { result ≡ name_eq self.now other.now }
     {
@@ -48,6 +50,7 @@ impl Name {
 }
 
 impl Bound {
+    /// The same thing, in memory of its own.
     pub fn copied(&self, alloc: Global) -> Result<Bound, AllocError>
         ensures { IfOk result (λ b. b ≡ self.now) }
     {
@@ -60,7 +63,7 @@ impl Bound {
 }
 
 /// The names in scope behind a new one.
-pub(crate) fn with_name(alloc: Global, name: Name, names: &[Name]) -> Result<List<Name>, AllocError>
+pub fn with_name(alloc: Global, name: Name, names: &[Name]) -> Result<List<Name>, AllocError>
     ensures { IfOk result (λ ns. ns ≡ name ∷ names.now) }
 {
     let mut all = List::new(alloc);
@@ -72,11 +75,7 @@ pub(crate) fn with_name(alloc: Global, name: Name, names: &[Name]) -> Result<Lis
 }
 
 /// What the names stand for, behind what a new one stands for.
-pub(crate) fn with_bound(
-    alloc: Global,
-    bound: Bound,
-    bounds: &[Bound],
-) -> Result<List<Bound>, AllocError>
+pub fn with_bound(alloc: Global, bound: Bound, bounds: &[Bound]) -> Result<List<Bound>, AllocError>
     ensures { IfOk result (λ bs. bs ≡ bound ∷ bounds.now) }
 {
     let mut all = List::new(alloc);
@@ -88,7 +87,7 @@ pub(crate) fn with_bound(
 }
 
 /// What names stand for, in memory of its own.
-pub(crate) fn copied_bounds(alloc: Global, bounds: &[Bound]) -> Result<List<Bound>, AllocError>
+pub fn copied_bounds(alloc: Global, bounds: &[Bound]) -> Result<List<Bound>, AllocError>
     ensures { IfOk result (λ bs. bs ≡ bounds.now) }
 {
     let mut all = List::new(alloc);
@@ -99,7 +98,7 @@ pub(crate) fn copied_bounds(alloc: Global, bounds: &[Bound]) -> Result<List<Boun
 }
 
 /// The prefixes among names.
-pub(crate) fn paths(alloc: Global, names: &[Name]) -> Result<List<Path>, AllocError>
+pub fn paths(alloc: Global, names: &[Name]) -> Result<List<Path>, AllocError>
     ensures { IfOk result (λ ps. ps ≡ paths_of names.now) }
 {
     let mut all = List::new(alloc);
@@ -112,7 +111,7 @@ pub(crate) fn paths(alloc: Global, names: &[Name]) -> Result<List<Path>, AllocEr
 }
 
 /// What a name stands for, if it is in scope.
-pub(crate) fn pick<'a>(names: &[Name], bounds: &'a [Bound], name: &Name) -> Option<&'a Bound>
+pub fn pick<'a>(names: &[Name], bounds: &'a [Bound], name: &Name) -> Option<&'a Bound>
     ensures { option_copied result ≡ pick_in names.now bounds.now name.now }
 {
     match names {
@@ -131,7 +130,7 @@ pub(crate) fn pick<'a>(names: &[Name], bounds: &'a [Bound], name: &Name) -> Opti
 }
 
 /// The value of a prefix as a list: none where it is not bound or stands for nothing.
-pub(crate) fn given(alloc: Global, bound: &Option<&Bound>) -> Result<List<Item>, AllocError>
+pub fn given(alloc: Global, bound: &Option<&Bound>) -> Result<List<Item>, AllocError>
     ensures { IfOk result (λ xs. xs ≡ given_in (option_copied bound.now)) }
 {
     let mut all = List::new(alloc);
@@ -142,7 +141,7 @@ pub(crate) fn given(alloc: Global, bound: &Option<&Bound>) -> Result<List<Item>,
 }
 
 /// The list of an alias: none where it is not in scope.
-pub(crate) fn listed(alloc: Global, bound: &Option<&Bound>) -> Result<List<Item>, AllocError>
+pub fn listed(alloc: Global, bound: &Option<&Bound>) -> Result<List<Item>, AllocError>
     ensures { IfOk result (λ xs. xs ≡ listed_in (option_copied bound.now)) }
 {
     match bound {

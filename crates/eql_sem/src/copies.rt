@@ -26,6 +26,20 @@ impl Copies for Formed {
     }
 }
 
+impl Copies for Form {
+    fn copied_in(&self, alloc: Global) -> Result<Form, AllocError> {
+        self.copied(alloc)
+    }
+}
+
+impl Copies for FormField {
+    fn copied_in(&self, alloc: Global) -> Result<FormField, AllocError> {
+        let name = self.name.copied(alloc)?;
+        let forms = copied_forms(alloc, self.forms.as_slice())?;
+        Ok(FormField { name, forms })
+    }
+}
+
 impl<T: Copies> Copies for List<T> {
     fn copied_in(&self, alloc: Global) -> Result<List<T>, AllocError> {
         let mut copies = List::new(alloc);

@@ -10,10 +10,7 @@ use ev_value::{Fault, Item, List, Val};
 use std::alloc::{AllocError, Global};
 
 /// Values alone.
-pub(crate) fn all_values<T: Copies>(
-    alloc: Global,
-    values: &[T],
-) -> Result<List<Item<T>>, AllocError>
+pub fn all_values<T: Copies>(alloc: Global, values: &[T]) -> Result<List<Item<T>>, AllocError>
     ensures { IfOk result (λ xs. xs ≡ all_of values.now) }
 {
     let mut all = List::new(alloc);
@@ -24,7 +21,7 @@ pub(crate) fn all_values<T: Copies>(
 }
 
 /// One item alone.
-pub(crate) fn one<T: Drop>(alloc: Global, item: Item<T>) -> Result<List<Item<T>>, AllocError>
+pub fn one<T: Drop>(alloc: Global, item: Item<T>) -> Result<List<Item<T>>, AllocError>
     ensures { IfOk result (λ xs. xs ≡ item ∷ []) }
 {
     let mut all = List::new(alloc);
@@ -33,10 +30,7 @@ pub(crate) fn one<T: Drop>(alloc: Global, item: Item<T>) -> Result<List<Item<T>>
 }
 
 /// Faults alone, as items of any kind.
-pub(crate) fn fault_items<T: Drop>(
-    alloc: Global,
-    faults: &[Fault],
-) -> Result<List<Item<T>>, AllocError>
+pub fn fault_items<T: Drop>(alloc: Global, faults: &[Fault]) -> Result<List<Item<T>>, AllocError>
     ensures { IfOk result (λ xs. xs ≡ only_faults faults.now) }
 {
     let mut all = List::new(alloc);
@@ -48,14 +42,15 @@ pub(crate) fn fault_items<T: Drop>(
 
 /// What a list of items comes to where all of it is looked at together.
 #[derive(Drop)]
-pub(crate) enum Settled<T> {
+pub enum Settled<T> {
     /// The values of a list without faults.
     Values(List<T>),
     /// The faults of a list that has some.
     Faults(List<Fault>),
 }
 
-fn any_fault<T>(items: &[Item<T>]) -> bool
+/// Whether a fault stands in the list.
+pub fn any_fault<T>(items: &[Item<T>]) -> bool
     ensures { result ≡ has_fault items.now }
 {
     for item in items {
@@ -66,7 +61,8 @@ fn any_fault<T>(items: &[Item<T>]) -> bool
     false
 }
 
-fn faults_among<T>(alloc: Global, items: &[Item<T>]) -> Result<List<Fault>, AllocError>
+/// The faults of a list, in their order.
+pub fn faults_among<T>(alloc: Global, items: &[Item<T>]) -> Result<List<Fault>, AllocError>
     ensures { IfOk result (λ es. es ≡ faults items.now) }
 {
     let mut all = List::new(alloc);
@@ -91,7 +87,7 @@ fn values_among<T: Copies>(alloc: Global, items: &[Item<T>]) -> Result<List<T>, 
 }
 
 /// The faults of a list where it has some, and else its values.
-pub(crate) fn settle<T: Copies>(alloc: Global, items: &[Item<T>]) -> Result<Settled<T>, AllocError>
+pub fn settle<T: Copies>(alloc: Global, items: &[Item<T>]) -> Result<Settled<T>, AllocError>
     ensures { IfOk result (λ s. IsSettled s items.now) }
 {
     if any_fault(items) {
@@ -102,7 +98,7 @@ pub(crate) fn settle<T: Copies>(alloc: Global, items: &[Item<T>]) -> Result<Sett
 }
 
 /// Items without their forms.
-pub(crate) fn strip(alloc: Global, items: &[Item<Formed>]) -> Result<List<Item>, AllocError>
+pub fn strip(alloc: Global, items: &[Item<Formed>]) -> Result<List<Item>, AllocError>
     ensures { IfOk result (λ xs. xs ≡ strip_items items.now) }
 {
     let mut all = List::new(alloc);
@@ -117,7 +113,7 @@ pub(crate) fn strip(alloc: Global, items: &[Item<Formed>]) -> Result<List<Item>,
 }
 
 /// Items whose forms are their values.
-pub(crate) fn dress(alloc: Global, items: &[Item]) -> Result<List<Item<Formed>>, AllocError>
+pub fn dress(alloc: Global, items: &[Item]) -> Result<List<Item<Formed>>, AllocError>
     ensures { IfOk result (λ xs. xs ≡ dress_items items.now) }
 {
     let mut all = List::new(alloc);
@@ -132,11 +128,26 @@ pub(crate) fn dress(alloc: Global, items: &[Item]) -> Result<List<Item<Formed>>,
 }
 
 /// A value whose form is the value itself.
-pub(crate) fn bare(alloc: Global, value: &Val) -> Result<Formed, AllocError>
+pub fn bare(alloc: Global, value: &Val) -> Result<Formed, AllocError>
     ensures { IfOk result (λ x. x ≡ bare_item value.now) }
 {
     Ok(Formed {
         value: value.copied(alloc)?,
         form: Form::Value(value.copied(alloc)?),
     })
+}
+
+/// The same items, in memory of their own.
+pub fn copied_items(alloc: Global, items: &[Item]) -> Result<List<Item>, AllocError>
+    ensures { IfOk result (λ xs. xs ≡ items.now) }
+{
+    let mut all = List::new(alloc);
+    for item in items {
+        let copy = match item {
+            Item::Value(value) => Item::Value(value.copied(alloc)?),
+            Item::Fault(fault) => Item::Fault(*fault),
+        };
+        all.push(copy)?;
+    }
+    Ok(all)
 }

@@ -1,18 +1,28 @@
-//! What a query means: the list of its items over a world of objects, each with its nested form.
+//! What a query means: the list of its items over a world of objects, each with its nested form. Beside the definitions
+//! stand the plain functions over lists that a program of the meaning is made of.
 #![tactic(auto)]
 
-mod base;
 mod binding;
 mod copies;
-mod evaluator;
 mod form;
 mod item;
+mod nested;
 mod operation;
 mod path_list;
-mod scope;
-mod task;
+mod row;
 mod world;
 
-pub use binding::{Bound, Name};
+pub use binding::{Bound, Name, copied_bounds, given, listed, pick, with_bound, with_name};
+pub use copies::Copies;
 pub use form::{Form, FormField, Formed};
+pub use item::{Settled, bare, dress, fault_items, one, settle, strip};
+pub use nested::{field, forms_of, root_name, shapes, subject_bound, tuples, with_value};
+pub use operation::{
+    cast_to, chosen, coalesced, gathered, in_set, of_set, operated, optional_equal, tupled,
+};
+pub use path_list::{
+    add_turns, copied_names, from_bound, last_property, nearest, prefixes_of_scope,
+    prefixes_of_statement, property_of_path, turns, walk, within,
+};
+pub use row::{Range, Row, cut_rows, first_of, is_cut, keyed_rows, orders_of, plain_rows, ranges};
 pub use world::World;

@@ -1,14 +1,16 @@
 //! What operators and functions make of the lists of their operands.
 ghost use Rattle.std.specs.Prelude.{◌≡◌, ◌∷◌, ◌++◌, [], IfOk, OnOk, Bool};
 ghost use Rattle.std.specs.List.{list_any};
-ghost use Rattle.ev_value.specs.Item.{bind, one as one_of};
+ghost use Rattle.ev_value.specs.Item.{bind, both, one as one_of};
 ghost use Rattle.ev_value.specs.Operator.{item_of_op, bool_item};
 ghost use Rattle.ev_value.specs.Casts.{item_of_cast};
-ghost use Rattle.eql_sem.specs.Operations.{product as product_of, operated as operated_by, cast_to as cast_items, tupled as tuples_of, tuple_of, turned as turned_by, same as same_value, same_place as same_places, or_empty as places_of, optional_equal as optionally_equal, in_set as is_in_set, asserted as asserted_list, optional as optional_list, of_values as function_of, of_set as set_function, coalesced as coalesced_lists, chosen as chosen_lists, equal_places, member_items, is_empty as has_none};
+ghost use Rattle.eql_sem.specs.Operations.{product as product_of, gathered as gathered_of, operated as operated_by, cast_to as cast_items, tupled as tuples_of, tuple_of, turned as turned_by, same as same_value, same_place as same_places, or_empty as places_of, optional_equal as optionally_equal, in_set as is_in_set, asserted as asserted_list, optional as optional_list, of_values as function_of, of_set as set_function, coalesced as coalesced_lists, chosen as chosen_lists, equal_places, member_items, branch_items, later_faults};
 
 use crate::copies::Copies;
 use crate::form::{Form, Formed};
-use crate::item::{Settled, all_values, fault_items, one, settle};
+use crate::item::{
+    Settled, all_values, any_fault, copied_items, fault_items, faults_among, one, settle,
+};
 use core_ir::SetFunction;
 use ev_list::{
     all_true, any_true, count, distinct, distinct_fault, exists_fault, greatest, is_true, least,
@@ -69,7 +71,7 @@ fn fronts<T: Copies>(
 
 /// One value of each list, the last list fastest; faults where they came up.
 #[tactic(auto, using(crate::proofs::Products::product_turn))]
-pub(crate) fn product<T: Copies>(
+pub fn product<T: Copies>(
     alloc: Global,
     lists: &[List<Item<T>>],
 ) -> Result<List<Item<List<T>>>, AllocError>
@@ -80,6 +82,51 @@ pub(crate) fn product<T: Copies>(
         Some((first, more)) => {
             let tails = product(alloc, more)?;
             fronts(alloc, first.as_slice(), tails.as_slice())
+        }
+    }
+}
+
+/// Appends the faults of the second list where the first one has some.
+pub fn add_later_faults<S, T, U: Drop>(
+    alloc: Global,
+    first: &[Item<S>],
+    second: &[Item<T>],
+    all: &mut List<Item<U>>,
+) -> Result<(), AllocError>
+    ensures { OnOk result (all.new ≡ all.old ++ later_faults first.now second.now) }
+{
+    if any_fault(first) {
+        let faults = faults_among(alloc, second)?;
+        all.append(fault_items(alloc, faults.as_slice())?)?;
+    }
+    Ok(())
+}
+
+// Each value of the first list in front of each of the tails; the faults of the tails too where the first list has some.
+fn both_fronts<T: Copies>(
+    alloc: Global,
+    first: &[Item<T>],
+    tails: &[Item<List<T>>],
+) -> Result<List<Item<List<T>>>, AllocError>
+    ensures { IfOk result (λ xs. xs ≡ both first.now tails.now (λ x rest. one_of (x ∷ rest))) }
+{
+    let mut all = fronts(alloc, first, tails)?;
+    add_later_faults(alloc, first, tails, &mut all)?;
+    Ok(all)
+}
+
+/// One value of each list, the last list fastest; the faults of all lists where there are some.
+pub fn gathered<T: Copies>(
+    alloc: Global,
+    lists: &[List<Item<T>>],
+) -> Result<List<Item<List<T>>>, AllocError>
+    ensures { IfOk result (λ xs. xs ≡ gathered_of lists.now) }
+{
+    match lists.split_first() {
+        None => one(alloc, Item::Value(List::new(alloc))),
+        Some((first, more)) => {
+            let tails = gathered(alloc, more)?;
+            both_fronts(alloc, first.as_slice(), tails.as_slice())
         }
     }
 }
@@ -96,11 +143,7 @@ fn item_of(operator: Op, operands: &[Val]) -> Result<Item, AllocError>
 }
 
 /// The items of an operator or a plain function.
-pub(crate) fn operated(
-    alloc: Global,
-    operator: Op,
-    lists: &[List<Item>],
-) -> Result<List<Item>, AllocError>
+pub fn operated(alloc: Global, operator: Op, lists: &[List<Item>]) -> Result<List<Item>, AllocError>
     ensures { IfOk result (λ xs. xs ≡ operated_by operator lists.now) }
 {
     let operands = product(alloc, lists)?;
@@ -127,7 +170,7 @@ fn cast_item(alloc: Global, ty: ScalarTy, value: &Val) -> Result<Item, AllocErro
 }
 
 /// The items of a cast.
-pub(crate) fn cast_to(alloc: Global, ty: ScalarTy, items: &[Item]) -> Result<List<Item>, AllocError>
+pub fn cast_to(alloc: Global, ty: ScalarTy, items: &[Item]) -> Result<List<Item>, AllocError>
     ensures { IfOk result (λ xs. xs ≡ cast_items ty items.now) }
 {
     let mut all = List::new(alloc);
@@ -158,10 +201,7 @@ fn tuple(alloc: Global, parts: &[Formed]) -> Result<Formed, AllocError>
 }
 
 /// The tuples of the components' items.
-pub(crate) fn tupled(
-    alloc: Global,
-    lists: &[List<Item<Formed>>],
-) -> Result<List<Item<Formed>>, AllocError>
+pub fn tupled(alloc: Global, lists: &[List<Item<Formed>>]) -> Result<List<Item<Formed>>, AllocError>
     ensures { IfOk result (λ xs. xs ≡ tuples_of lists.now) }
 {
     let components = product(alloc, lists)?;
@@ -236,7 +276,7 @@ fn add_equal(
 }
 
 /// The items of `?=`, or of `?!=` where it is negated.
-pub(crate) fn optional_equal(
+pub fn optional_equal(
     alloc: Global,
     negated: bool,
     left: &[Item],
@@ -289,7 +329,7 @@ fn members(
 }
 
 /// The items of `in`, or of `not in` where it is negated.
-pub(crate) fn in_set(
+pub fn in_set(
     alloc: Global,
     negated: bool,
     left: &[Item],
@@ -346,15 +386,63 @@ fn of_values(
 }
 
 /// The items of a function of a set.
-pub(crate) fn of_set(
-    alloc: Global,
-    function: SetFunction,
-    set: &[Item],
-) -> Result<List<Item>, AllocError>
+pub fn of_set(alloc: Global, function: SetFunction, set: &[Item]) -> Result<List<Item>, AllocError>
     ensures { IfOk result (λ xs. xs ≡ set_function function set.now) }
 {
     match settle(alloc, set)? {
         Settled::Values(values) => of_values(alloc, function, values),
+        Settled::Faults(faults) => fault_items(alloc, faults.as_slice()),
+    }
+}
+
+/// The items of `??`.
+pub fn coalesced(
+    alloc: Global,
+    first: &[Item],
+    second: List<Item>,
+) -> Result<List<Item>, AllocError>
+    ensures { IfOk result (λ xs. xs ≡ coalesced_lists first.now second) }
+{
+    match settle(alloc, first)? {
+        Settled::Values(values) => {
+            if values.is_empty() {
+                Ok(second)
+            } else {
+                all_values(alloc, values.as_slice())
+            }
+        }
+        Settled::Faults(faults) => fault_items(alloc, faults.as_slice()),
+    }
+}
+
+// The list of one branch for each truth of the condition.
+fn branches(
+    alloc: Global,
+    truths: &[Val],
+    value: &[Item],
+    other: &[Item],
+) -> Result<List<Item>, AllocError>
+    ensures { IfOk result (λ xs. xs ≡ branch_items truths.now value.now other.now) }
+{
+    let mut all = List::new(alloc);
+    for truth in truths {
+        let branch = if is_true(truth) { value } else { other };
+        all.append(copied_items(alloc, branch)?)?;
+    }
+    Ok(all)
+}
+
+/// The items of `if`.
+pub fn chosen(
+    alloc: Global,
+    condition: &[Item],
+    value: &[Item],
+    other: &[Item],
+) -> Result<List<Item>, AllocError>
+    ensures { IfOk result (λ xs. xs ≡ chosen_lists condition.now value.now other.now) }
+{
+    match settle(alloc, condition)? {
+        Settled::Values(truths) => branches(alloc, truths.as_slice(), value, other),
         Settled::Faults(faults) => fault_items(alloc, faults.as_slice()),
     }
 }

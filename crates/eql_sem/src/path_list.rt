@@ -1,14 +1,14 @@
 //! The list of a path: what its root or its nearest bound prefix gives, and what the steps make of it.
-ghost use Rattle.std.specs.Prelude.{◌≡◌, ◌≤◌, ◌++◌, false, IfOk, OnOk, length};
-ghost use Rattle.ev_value.specs.Item.{bind, all_of};
+ghost use Rattle.std.specs.Prelude.{◌≡◌, ◌≤◌, ◌∷◌, ◌++◌, false, IfOk, OnOk, length};
+ghost use Rattle.ev_value.specs.Item.{bind, all_of, one as one_of};
 ghost use Rattle.eql_sem.specs.Bindings.{nearest as nearest_of, turns as turns_of, within as within_names};
-ghost use Rattle.eql_sem.specs.Scopes.{last_property as last_property_of, walk as walk_of, property_list as property_list_of};
+ghost use Rattle.eql_sem.specs.Scopes.{last_property as last_property_of, walk as walk_of, property_list as property_list_of, from_bound as from_bound_of, end_list};
 ghost use Rattle.core_ir.specs.Occurrences.{direct as direct_in, all as all_in};
 ghost use Rattle.path_scope.specs.Factored.{factored};
 ghost use Rattle.eql_sem.specs.Bindings.{paths_of};
 ghost use Rattle.eql_sem.specs.Parts.{prefixes_of_select};
 
-use crate::binding::{Bound, Name, paths, pick, with_name};
+use crate::binding::{Bound, Name, given, paths, pick, with_bound, with_name};
 use crate::item::one;
 use crate::world::World;
 use core_ir::{Expr, Path, PtrId, Select, Step, all, all_inside, copied_steps, direct};
@@ -17,7 +17,7 @@ use path_scope::{Prefix, factored_prefixes};
 use std::alloc::{AllocError, Global};
 
 /// The prefixes that a scope with this body binds.
-pub(crate) fn prefixes_of_scope(
+pub fn prefixes_of_scope(
     alloc: Global,
     body: &Expr,
     names: &[Name],
@@ -31,7 +31,7 @@ pub(crate) fn prefixes_of_scope(
 }
 
 /// The prefixes that a select's own scope binds.
-pub(crate) fn prefixes_of_statement(
+pub fn prefixes_of_statement(
     alloc: Global,
     select: &Select,
     names: &[Name],
@@ -45,11 +45,7 @@ pub(crate) fn prefixes_of_statement(
 }
 
 /// The names in scope once a scope's prefixes are bound.
-pub(crate) fn within(
-    alloc: Global,
-    prefixes: &[Prefix],
-    names: &[Name],
-) -> Result<List<Name>, AllocError>
+pub fn within(alloc: Global, prefixes: &[Prefix], names: &[Name]) -> Result<List<Name>, AllocError>
     ensures { IfOk result (λ ns. ns ≡ within_names prefixes.now names.now) }
 {
     let mut all = copied_names(alloc, names)?;
@@ -61,7 +57,7 @@ pub(crate) fn within(
 }
 
 /// The same names, in memory of their own.
-pub(crate) fn copied_names(alloc: Global, names: &[Name]) -> Result<List<Name>, AllocError>
+pub fn copied_names(alloc: Global, names: &[Name]) -> Result<List<Name>, AllocError>
     ensures { IfOk result (λ ns. ns ≡ names.now) }
 {
     let mut all = List::new(alloc);
@@ -72,10 +68,7 @@ pub(crate) fn copied_names(alloc: Global, names: &[Name]) -> Result<List<Name>, 
 }
 
 /// The link and the property's name at the end of a path that ends in a link property.
-pub(crate) fn last_property(
-    alloc: Global,
-    steps: &[Step],
-) -> Result<Option<(PtrId, Text)>, AllocError>
+pub fn last_property(alloc: Global, steps: &[Step]) -> Result<Option<(PtrId, Text)>, AllocError>
     ensures { IfOk result (λ p. p ≡ last_property_of steps.now) }
 {
     let count = steps.len();
@@ -91,8 +84,8 @@ pub(crate) fn last_property(
 }
 
 /// What the longest bound prefix with fewer than so many steps stands for, with the steps that go on from it.
-#[tactic(auto, using(crate::proofs::Nearest::nearest_here, crate::proofs::Nearest::nearest_shorter))]
-pub(crate) fn nearest(
+#[tactic(auto, using(crate::proofs::LongestPrefix::nearest_here, crate::proofs::LongestPrefix::nearest_shorter))]
+pub fn nearest(
     alloc: Global,
     count: usize,
     names: &[Name],
@@ -120,7 +113,7 @@ pub(crate) fn nearest(
 }
 
 /// The steps, one after the other.
-pub(crate) fn walk<W: World>(
+pub fn walk<W: World>(
     alloc: Global,
     world: &W,
     steps: &[Step],
@@ -136,11 +129,7 @@ pub(crate) fn walk<W: World>(
 }
 
 /// What the turns of a prefix's loop bind it to.
-pub(crate) fn turns(
-    alloc: Global,
-    optional: bool,
-    items: &[Item],
-) -> Result<List<Item<Bound>>, AllocError>
+pub fn turns(alloc: Global, optional: bool, items: &[Item]) -> Result<List<Item<Bound>>, AllocError>
     ensures { IfOk result (λ xs. xs ≡ turns_of optional items.now) }
 {
     if items.is_empty() {
@@ -184,7 +173,7 @@ fn add_properties<W: World>(
 }
 
 /// The property of a link between its bound sources and its bound targets.
-pub(crate) fn property_list<W: World>(
+pub fn property_list<W: World>(
     alloc: Global,
     world: &W,
     link: PtrId,
@@ -204,4 +193,66 @@ pub(crate) fn property_list<W: World>(
         }
     }
     Ok(all)
+}
+
+/// Appends a binding for each turn of a prefix's loop.
+pub fn add_turns(
+    alloc: Global,
+    bounds: &[Bound],
+    turns: &[Item<Bound>],
+    all: &mut List<Item<List<Bound>>>,
+) -> Result<(), AllocError>
+    ensures { OnOk result (all.new ≡ all.old ++ bind turns.now (λ x. one_of (x ∷ bounds.now))) }
+{
+    for turn in turns {
+        match turn {
+            Item::Value(bound) => {
+                all.push(Item::Value(with_bound(alloc, bound.copied(alloc)?, bounds)?))?
+            }
+            Item::Fault(fault) => all.push(Item::Fault(*fault))?,
+        }
+    }
+    Ok(())
+}
+
+/// The steps from what a prefix is bound to; from one that stands for nothing there is nothing.
+pub fn from_bound<W: World>(
+    alloc: Global,
+    world: &W,
+    bound: Bound,
+    steps: &[Step],
+) -> Result<List<Item>, AllocError>
+    ensures { IfOk result (λ xs. xs ≡ from_bound_of (W.means world.now) bound steps.now) }
+{
+    match bound {
+        Bound::One(value) => walk(alloc, world, steps, one(alloc, Item::Value(value))?),
+        _ => Ok(List::new(alloc)),
+    }
+}
+
+/// The property at the end of a path, between its bound source and its bound target.
+pub fn property_of_path<W: World>(
+    alloc: Global,
+    world: &W,
+    path: &Path,
+    link: PtrId,
+    name: &Text,
+    names: &[Name],
+    bounds: &[Bound],
+) -> Result<List<Item>, AllocError>
+    ensures { IfOk result (λ xs. xs ≡ end_list (W.means world.now) path.now link name.now names.now bounds.now) }
+{
+    let count = path.steps.len();
+    let source = Name::Prefix(path.prefix(alloc, count.saturating_sub(2))?);
+    let target = Name::Prefix(path.prefix(alloc, count.saturating_sub(1))?);
+    let sources = given(alloc, &pick(names, bounds, &source))?;
+    let targets = given(alloc, &pick(names, bounds, &target))?;
+    property_list(
+        alloc,
+        world,
+        link,
+        name,
+        sources.as_slice(),
+        targets.as_slice(),
+    )
 }

@@ -1,10 +1,6 @@
-use Rattle.std.proofs.Common.{◌≡◌, ◌++◌, ◌∷◌, [], drop, map, take}
-use Rattle.std.specs.List.{list_any}
-use Rattle.ev_value.specs.Item.{bind, one}
-use Rattle.ev_value.specs.Operator.{item_of_op, bool_item}
-use Rattle.ev_value.specs.Casts.{item_of_cast}
-use Rattle.eql_sem.specs.Operations.{cast_to, tuple_of, equal_places, member_items, same}
-use Rattle.eql_sem.specs.declared.form.Form.TheVariants as form
+use Rattle.std.proofs.Common.{◌≡◌, ◌++◌, drop}
+use Rattle.ev_value.specs.Item.{bind}
+use Rattle.eql_sem.specs.Operations.{equal_places}
 use Rattle.eql_sem.proofs.operation.optional_equal.Given as goal
 
 abbrev pub invariant-loop-place : goal.invariant-loop-place

@@ -1,0 +1,7 @@
+use Rattle.std.proofs.Common.{◌≡◌, ◌++◌, drop}
+use Rattle.ev_value.specs.Item.{bind}
+use Rattle.eql_sem.specs.Selects.{range_of}
+use Rattle.eql_sem.proofs.row.add_ranges.Given as goal
+
+abbrev pub invariant-loop-item : goal.invariant-loop-item
+invariant-loop-item l = l.all ++ bind (drop l.item-index l.limits) (range_of l.offset) ≡ l.initial.all ++ bind l.limits (range_of l.offset)
