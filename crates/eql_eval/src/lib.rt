@@ -10,4 +10,4 @@ mod shape;
 mod statement;
 mod task;
 
-pub use query::evaluate;
+pub use query::{evaluate, values_for};
