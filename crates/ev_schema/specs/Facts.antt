@@ -1,5 +1,5 @@
 -- Schemas of some parts.
-use Rattle.std.specs.Prelude.{List, [], ◌∷◌, ◌++◌, Option, Some, None, codes}
+use Rattle.std.specs.Prelude.{List, [], ◌∷◌, ◌++◌, Option, None, codes}
 use Rattle.ev_value.specs.declared.value.ScalarTy.TheVariants as scalar
 use Rattle.core_ir.specs.declared.card.Card.TheVariants as card
 use Rattle.core_ir.specs.declared.phase.Carded.{Carded}

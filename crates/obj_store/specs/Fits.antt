@@ -3,9 +3,6 @@ use Rattle.std.specs.Prelude.{◌≡◌, ℕ, nat_lt, Bool, true, false, List, [
 use Rattle.std.specs.List.{list_any, Contains}
 use Rattle.std.specs.Cmp.Lexicographic.{slice_cmp}
 use Rattle.std.specs.Ordering.{nat_cmp, is_lt}
-use Rattle.std.specs.Str.{bytes_eq}
-use Rattle.ev_value.specs.declared.value.ScalarTy.{ScalarTy}
-use Rattle.ev_value.specs.declared.value.Val.{Val}
 use Rattle.ev_list.specs.Occurrence.{has_repeat}
 use Rattle.core_ir.specs.Card.{Within}
 use Rattle.core_ir.specs.declared.card.Card.{Card}

@@ -1,5 +1,5 @@
 -- What is flagged is what is shown.
-use Rattle.std.proofs.Common.{◌≡◌, ℕ, ◌==◌, Bool, true, false, List, [], ◌∷◌, map, filter, Option, Some, None, if◌then◌else◌, refl, ap, sym, ◌∙◌}
+use Rattle.std.proofs.Common.{◌≡◌, ℕ, ◌==◌, Bool, true, false, List, [], ◌∷◌, map, filter, Option, Some, None, if◌then◌else◌, refl, ap, ◌∙◌}
 use Rattle.ev_value.specs.declared.args.Args.{Args}
 use Rattle.ev_schema.specs.declared.schema.Schema.{Schema}
 use Rattle.obj_store.specs.declared.object.Object.{Object}

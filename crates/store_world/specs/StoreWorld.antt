@@ -1,5 +1,5 @@
 -- What a query is asked over, where that is a schema, its objects and a caller's arguments.
-use Rattle.std.specs.Prelude.{ℕ, ◌==◌, Bool, false, List, [], ◌∷◌, fold, Option, Some, None, if◌then◌else◌}
+use Rattle.std.specs.Prelude.{◌==◌, Bool, false, List, [], ◌∷◌, fold, Option, Some, None, if◌then◌else◌}
 use Rattle.ev_value.specs.Item.{bind}
 use Rattle.ev_value.specs.declared.args.Args.{Args}
 use Rattle.ev_value.specs.declared.item.Item.{Item}

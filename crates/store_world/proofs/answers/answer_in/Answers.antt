@@ -1,4 +1,3 @@
-use Rattle.std.proofs.Common.{◌≡◌}
 use Rattle.store_world.proofs.ColumnLaws.{whole_items}
 use Rattle.store_world.proofs.answers.answer_in.Goals as goal
 

@@ -1,4 +1,4 @@
-use Rattle.std.proofs.Common.{◌≡◌, subst, sym}
+use Rattle.std.proofs.Common.{subst, sym}
 use Rattle.store_world.specs.Worked.{IsWhole}
 use Rattle.store_world.proofs.answers.view.Goals as goal
 

@@ -1,4 +1,4 @@
-use Rattle.std.proofs.Common.{◌≡◌, ◌∙◌, ap, Bool, List}
+use Rattle.std.proofs.Common.{◌∙◌, ap, Bool, List}
 use Rattle.store_world.specs.View.{flagged, flag_for}
 use Rattle.store_world.proofs.ViewLaws.{view_flagged}
 use Rattle.store_world.proofs.answers.view_in.Goals as goal

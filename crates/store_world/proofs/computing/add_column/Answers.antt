@@ -1,4 +1,4 @@
-use Rattle.std.proofs.Common.{◌≡◌, ◌∙◌, ap, List}
+use Rattle.std.proofs.Common.{◌∙◌, ap, List}
 use Rattle.store_world.specs.declared.column.Column.{Column}
 use Rattle.store_world.specs.StoreWorld.{by_columns, world_where}
 use Rattle.store_world.specs.Worked.{lists_for}

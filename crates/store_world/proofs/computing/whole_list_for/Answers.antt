@@ -1,4 +1,3 @@
-use Rattle.std.proofs.Common.{◌≡◌}
 use Rattle.obj_store.specs.Objects.{as_value}
 use Rattle.store_world.proofs.ColumnLaws.{whole_list}
 use Rattle.store_world.proofs.computing.whole_list_for.Goals as goal
