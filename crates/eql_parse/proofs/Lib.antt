@@ -1,3 +1,5 @@
 pub mod Depth
+pub mod Eager
+pub mod EagerExprs
 pub mod Few
 pub mod Queries

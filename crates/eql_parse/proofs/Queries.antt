@@ -1,33 +1,30 @@
 -- What the readers of queries and expressions found, in the words of what is promised.
-use Rattle.std.proofs.Common.{◌≡◌, ℕ, suc, ◌+◌, ◌-◌, ◌≤◌, Bool, true, false, Option, Some, None, List, [], ◌∷◌, inl, inr, length, take, drop, refl, sym, ap, subst, ◌∙◌, arith}
-use Rattle.std.proofs.lemmas.List.{length-append, length-take, length-drop, take-append-drop, drop-drop}
-use Rattle.std.proofs.Math.Dec.{leb}
+use Rattle.std.proofs.Common.{◌≡◌, ℕ, suc, ◌+◌, ◌-◌, ◌≤◌, ◌<◌, Bool, true, false, List, [], inl, inr, ◌⊎◌, length, take, drop, refl, sym, ap, subst, ◌∙◌, arith}
+use Rattle.std.proofs.lemmas.Bool.{cases_lt}
+use Rattle.std.proofs.lemmas.List.{length-append, length-take, length-drop, take-append-drop, take-take, take_all, append-nil}
 use Rattle.exact.specs.declared.rule.Rule.{Rule}
 use Rattle.exact.specs.declared.rule.Rule.TheVariants.{Unexpected, TooDeep}
 use Rattle.exact.specs.Language.{Lang}
-use Rattle.exact.specs.Reading.{Outcome, Got, Stop, heads}
+use Rattle.exact.specs.Reading.{Outcome, Got, Stop}
 use Rattle.exact.specs.Promise.{Any, IsRefused, IsPrefix}
 use Rattle.exact.proofs.Exact.{IsExact}
-use Rattle.exact.proofs.Whole.{prefix_read}
+use Rattle.exact.proofs.Laws.{Loosens}
+use Rattle.exact.proofs.Whole.{prefix_read, any_loosens}
 use Rattle.ev_lex.specs.declared.token.Token.{Token}
-use Rattle.ev_lex.specs.declared.token.Sign.TheVariants as sign
-use Rattle.ev_lex.specs.declared.keyword.Keyword.TheVariants as keyword
 use Rattle.ast.specs.declared.expression.Expr.{Expr}
 use Rattle.ast.specs.declared.statement.Query.{Query}
-use Rattle.eql_grammar.specs.declared.class.Class.{Class}
-use Rattle.eql_grammar.specs.declared.class.Class.TheVariants.{Sign as ASign, Reserved, Named}
-use Rattle.eql_grammar.specs.declared.grown.Leveled.{Leveled}
 use Rattle.eql_grammar.specs.declared.grown.GrownExpr.{GrownExpr}
 use Rattle.eql_grammar.specs.declared.grown.Asked.{Asked}
 use Rattle.eql_grammar.specs.declared.limits.TheConstants.{MAX_OPEN}
 use Rattle.eql_grammar.specs.Trees.{too_high, query_of}
-use Rattle.eql_grammar.specs.Words.{class_of, infix_in}
 use Rattle.eql_grammar.specs.Grammar as g
 use Rattle.eql_grammar.specs.Promise.{QueryText, ExprText, IsQuery, IsExprUpTo}
-use Rattle.eql_grammar.proofs.Sets.{go, binds_by, others}
+use Rattle.eql_grammar.proofs.Sets.{go}
 use Rattle.eql_grammar.proofs.Levels.{within_known}
 use Rattle.eql_grammar.proofs.Promise as p
-use Rattle.eql_parse.specs.Promise.{refusal, IsTallUpTo, IsExprRefused, follows, goes_on_by, goes_on}
+use Rattle.eql_parse.specs.Promise.{refusal, IsTallUpTo, IsExprRefused}
+use Rattle.eql_parse.proofs.Eager.{IsEager, Further, Behind}
+use Rattle.eql_parse.proofs.EagerExprs.{within_inside}
 
 pub same_refusal : (r q : Rule) (j k : ℕ) → refusal r j ≡ refusal q k → (r ≡ q) × (j ≡ k)
 same_refusal Unexpected Unexpected j k e = (refl, cc)
@@ -66,39 +63,70 @@ expr_left ts x rest e = let f = (exact_expr 0).takes ts x rest e in omega (arith
 pub expr_stop_left : (ts : List Token) (rule : Rule) (rest : List Token) → p.expr ts ≡ Stop rule rest → length rest ≤ length ts
 expr_stop_left ts rule rest e = let f = (exact_expr 0).stops ts rule rest e in omega (arith, length-append f.front rest, ap length f.parts)
 
-loose : (c : Class) → follows c ≡ false → leb 11 (others c) ≡ false
-loose (Reserved keyword.If) h = absurd cc
-loose (Reserved keyword.Not) h = absurd cc
-loose (ASign sign.Dot) h = absurd cc
-loose (ASign sign.BackLink) h = absurd cc
-loose (ASign sign.At) h = absurd cc
-loose (ASign sign.LeftBracket) h = absurd cc
-loose (ASign sign.LeftBrace) h = absurd cc
-loose (ASign sign.LeftParen) h = absurd cc
-loose (ASign sign.Namespace) h = absurd cc
-loose (Named None) h = refl
-loose (Named (Some keyword.Then)) h = refl
-loose (Named (Some keyword.Empty)) h = refl
-loose (Named (Some keyword.Asc)) h = refl
-loose (Named (Some keyword.Desc)) h = refl
-loose (Named (Some _)) h = refl
-loose _ h = refl
-
-ends_by : (o : Option Leveled) (c : Class) → goes_on_by o (follows c) ≡ false → leb 11 (binds_by o (others c)) ≡ false
-ends_by (Some i) c h = absurd cc
-ends_by None c h = loose c h
-
-ends : (rest : List Token) → heads goes_on rest ≡ false → heads (go 11) rest ≡ false
-ends [] h = refl
-ends (t ∷ ts) h = ends_by (infix_in (class_of t)) (class_of t) h
-
-pub prefix_got : (ts : List Token) (x : GrownExpr) (k : ℕ) → IsPrefix ExprText ts x k → heads goes_on (drop k ts) ≡ false → p.expr ts ≡ Got x (drop k ts)
+expr_loosens : Loosens ExprText
 unfolding Spelling
-prefix_got ts x k is stop =
-    let number : length (take k ts) ≡ k = let le = is.0 in omega (arith, length-take k ts) in
-    let l : Any Spelling (length (take k ts)) (take k ts) x = subst (λ (n : ℕ). Any Spelling n (take k ts) x) (sym number) is.1 in
-    let e = prefix_read Spelling p.expr (λ _. go 11) exact_expr (take k ts) x (drop k ts) l (ends (drop k ts) stop) in
-    ap p.expr (sym (take-append-drop k ts)) ∙ e
+expr_loosens = any_loosens Spelling (λ spare. (within_known too_high spare MAX_OPEN (suc (suc (MAX_OPEN + spare))) (omega arith)).expr.loosens)
+
+eager_expr : IsEager p.expr
+unfolding p.expr
+eager_expr = (within_inside too_high MAX_OPEN).expr
+
+-- lists that agree before one place agree before an earlier one
+agree_before : (j k : ℕ) (s ts : List Token) → j ≤ k → take k s ≡ take k ts → take j s ≡ take j ts
+agree_before j k s ts le e = sym (take-take j k s le) ∙ ap (λ (z : List Token). take j z) e ∙ take-take j k ts le
+
+-- A front of the tokens that spells an expression, with which no expression goes on, is read.
+module _ (ts : List Token) (x : GrownExpr) (k : ℕ) (is : IsPrefix ExprText ts x k) where
+  front_number : length (take k ts) ≡ k
+  front_number = let le = is.0 in omega (arith, length-take k ts)
+
+  back_number : k + length (drop k ts) ≡ length ts
+  back_number = let le = is.0 in omega (arith, length-drop k ts)
+
+  -- where nothing stands behind it
+  alone : p.expr (take k ts) ≡ Got x []
+  unfolding Spelling
+  alone =
+      let l : Any Spelling (length (take k ts)) (take k ts) x = subst (λ (n : ℕ). Any Spelling n (take k ts) x) (sym front_number) is.1 in
+      ap p.expr (sym (append-nil (take k ts))) ∙ prefix_read Spelling p.expr (λ _. go 11) exact_expr (take k ts) x [] l refl
+
+  -- no text of the grammar agrees with more tokens
+  no_further : (n : ℕ) (s : List Token) (y : GrownExpr) → k < n → k < length ts → ExprText 0 s y → take n s ≡ take n ts → ⊥
+  no_further n s y lt more l same = is.2 more s y l (agree_before (suc k) n s ts lt same)
+
+  -- at the end no token is too deep
+  not_at_end : (rest : List Token) → p.expr ts ≡ Stop TooDeep rest → length ts ≤ k → ⊥
+  not_at_end rest e le =
+      let whole : ts ≡ take k ts = sym (take_all k ts le) in
+      let bad : ◌≡◌ {A = Outcome Token GrownExpr} (Stop TooDeep rest) (Got x []) = sym e ∙ ap p.expr whole ∙ alone in absurd cc
+
+  not_further : (o : Outcome Token GrownExpr) → p.expr ts ≡ o → Further (drop k ts) o → ⊥
+  not_further (Got y rest) e further =
+      let lt : length rest < length (drop k ts) = further in
+      let same = p.one_expr ts y x (length ts - length rest) k (p.expr_found ts y rest e (length ts - length rest) (omega (arith, back_number))) is in
+      let at : length ts - length rest ≡ k = same.1 in
+      omega (arith, back_number)
+  not_further (Stop Unexpected rest) e further =
+      let lt : length rest < length (drop k ts) = further in
+      let r = p.expr_refused ts Unexpected rest e (length ts - length rest) (omega (arith, back_number)) in
+      no_further (length ts - length rest) r.2.0 r.2.1 (omega (arith, back_number)) (omega (arith, back_number)) (expr_loosens 0 (length ts - length rest) r.2.0 r.2.1 (omega arith) r.2.2) r.2.3
+  not_further (Stop TooDeep rest) e further = cases (cases_lt k (length ts))
+    where
+      le : length rest ≤ length (drop k ts)
+      le = further
+
+      cases : (k < length ts) ⊎ (length ts ≤ k) → ⊥
+      cases (inl lt) =
+          let r = p.expr_refused ts TooDeep rest e (length ts - length rest) (omega (arith, back_number, le)) in
+          no_further (suc (length ts - length rest)) r.2.0 r.2.1 (omega (arith, back_number, le)) lt (expr_loosens 0 (length ts - length rest) r.2.0 r.2.1 (omega arith) r.2.2) r.2.3
+      cases (inr over) = not_at_end rest e over
+
+  pub prefix_got : p.expr ts ≡ Got x (drop k ts)
+  prefix_got = cases (subst (λ (z : List Token). Behind (drop k ts) x (p.expr z)) (take-append-drop k ts) (eager_expr.behind (take k ts) (drop k ts) x alone))
+    where
+      cases : Behind (drop k ts) x (p.expr ts) → p.expr ts ≡ Got x (drop k ts)
+      cases (inl e) = e
+      cases (inr further) = absurd (not_further (p.expr ts) refl further)
 
 module _ (ts : List Token) (x : GrownExpr) (rest : List Token) (e : p.expr ts ≡ Got x rest) (k : ℕ) (place : k + length rest ≡ length ts) where
   prefix : IsPrefix ExprText ts x k
@@ -140,11 +168,11 @@ module _ (ts : List Token) (rule : Rule) (rest : List Token) (e : p.expr ts ≡ 
   no_got : (y : GrownExpr) (behind : List Token) → p.expr ts ≡ Got y behind → ⊥
   no_got y behind f = let bad : ◌≡◌ {A = Outcome Token GrownExpr} (Stop rule rest) (Got y behind) = sym e ∙ f in absurd cc
 
-  pub no_expr : (y : Expr) (j : ℕ) → IsExprUpTo ts y j → heads goes_on (drop j ts) ≡ false → ⊥
-  no_expr y j is stop = no_got is.0 (drop j ts) (prefix_got ts is.0 j is.1 stop)
+  pub no_expr : (y : Expr) (j : ℕ) → IsExprUpTo ts y j → ⊥
+  no_expr y j is = no_got is.0 (drop j ts) (prefix_got ts is.0 j is.1)
 
-  pub no_tall : (other : Rule) (j : ℕ) → IsTallUpTo ts other j → heads goes_on (drop j ts) ≡ false → ⊥
-  no_tall other j is stop = no_got is.1.0 (drop j ts) (prefix_got ts is.1.0 j is.1.1 stop)
+  pub no_tall : (other : Rule) (j : ℕ) → IsTallUpTo ts other j → ⊥
+  no_tall other j is = no_got is.1.0 (drop j ts) (prefix_got ts is.1.0 j is.1.1)
 
   pub expr_refused : (k : ℕ) → k + length rest ≡ length ts → IsExprRefused ts rule k
   expr_refused k place = inl (p.expr_refused ts rule rest e k place)
@@ -161,10 +189,6 @@ pub one_refusal_apart : (ts : List Token) (x : Query) (r : Rule) (k : ℕ) → I
 one_refusal_apart ts x r k is refused = p.query_not_refused ts r k is.0 is.1 refused
 
 -- ---- an expression from a number on
-
--- what stands behind the front of what is left
-behind : (all : List Token) (from k : ℕ) → heads goes_on (drop (from + k) all) ≡ false → heads goes_on (drop k (drop from all)) ≡ false
-behind all from k h = rw (drop-drop k from all) h
 
 module _ (all : List Token) (from : ℕ) (within : from ≤ length all) (start : List Token) (here : start ≡ drop from all) where
   module _ (x : GrownExpr) (rest : List Token) (e : p.expr start ≡ Got x rest) where
@@ -215,11 +239,11 @@ module _ (all : List Token) (from : ℕ) (within : from ≤ length all) (start :
     pub at_stop_left : length rest ≤ length all
     at_stop_left = let le = expr_stop_left (drop from all) rule rest stop in omega (arith, length-drop from all)
 
-    pub at_no_expr : (y : Expr) (j : ℕ) → IsExprUpTo (drop from all) y j → heads goes_on (drop (from + j) all) ≡ false → ⊥
-    at_no_expr y j is ends = no_expr (drop from all) rule rest stop y j is (behind all from j ends)
+    pub at_no_expr : (y : Expr) (j : ℕ) → IsExprUpTo (drop from all) y j → ⊥
+    at_no_expr = no_expr (drop from all) rule rest stop
 
-    pub at_no_tall : (other : Rule) (j : ℕ) → IsTallUpTo (drop from all) other j → heads goes_on (drop (from + j) all) ≡ false → ⊥
-    at_no_tall other j is ends = no_tall (drop from all) rule rest stop other j is (behind all from j ends)
+    pub at_no_tall : (other : Rule) (j : ℕ) → IsTallUpTo (drop from all) other j → ⊥
+    at_no_tall = no_tall (drop from all) rule rest stop
 
     module _ (n : ℕ) (place : n + length rest ≡ length all) where
       stop_front : (n - from) + length rest ≡ length (drop from all)

@@ -20,4 +20,5 @@ mod tests;
 
 pub use laws::{few_tokens, one_expression, one_refusal, one_tree};
 pub use parse::{parse_expr, parse_query};
+pub use read::expr;
 pub use refusal::SyntaxRefusal;

@@ -1,6 +1,5 @@
 //! Queries and expressions from lists of tokens.
-ghost use Rattle.std.specs.Prelude.{◌≡◌, ◌≢◌, ◌<◌, ◌≤◌, ◌+◌, ◌^◌, ℕ, false, true, length, drop, IfOk};
-ghost use Rattle.exact.specs.Reading.{heads};
+ghost use Rattle.std.specs.Prelude.{◌≡◌, ◌≢◌, ◌<◌, ◌≤◌, ◌+◌, ◌^◌, ℕ, true, length, drop, IfOk};
 ghost use Rattle.exact.specs.Promise.{IsRefused, IsPrefix};
 ghost use Rattle.exact.specs.declared.rule.Rule.{Rule};
 ghost use Rattle.ast.specs.declared.expression.Expr.{Expr};
@@ -8,7 +7,7 @@ ghost use Rattle.ast.specs.declared.statement.Query.{Query};
 ghost use Rattle.ev_lex.specs.declared.token.Token.{Token};
 ghost use Rattle.eql_grammar.specs.declared.grown.GrownExpr.{GrownExpr};
 ghost use Rattle.eql_grammar.specs.Promise.{QueryText, ExprText, IsQuery, IsExprUpTo};
-ghost use Rattle.eql_parse.specs.Promise.{refusal, Answers, IsExprRefused, IsTallUpTo, goes_on};
+ghost use Rattle.eql_parse.specs.Promise.{refusal, Answers, IsExprRefused, IsTallUpTo};
 
 use crate::read::{expr, whole_query};
 use crate::refusal::{SyntaxRefusal, refused_by};
@@ -64,13 +63,13 @@ pub fn parse_expr(alloc: Global, tokens: &Tokens, from: u32) -> Result<(Expr, u3
     // What is read is spelled so, and no expression goes on with the next token.
     ensures found { IfOk result (λ found. (k : ℕ) × (found.1 ≡ from + k) × IsExprUpTo (drop from tokens.now) found.0 k) }
     // What is spelled so is read, unless memory runs out.
-    ensures only { (x : Expr) (k : ℕ) → IsExprUpTo (drop from tokens.now) x k → heads goes_on (drop (from + k) tokens.now) ≡ false → Answers result (Ok (x, from + k)) }
+    ensures only { (x : Expr) (k : ℕ) → IsExprUpTo (drop from tokens.now) x k → Answers result (Ok (x, from + k)) }
     // A refusal names the first token that is dead, or that passes a limit.
     ensures refused { (rule : Rule) (token : ℕ) → result ≡ Err (refusal rule token) → (k : ℕ) × (token ≡ from + k) × IsExprRefused (drop from tokens.now) rule k }
     // And where no front of the tokens is an expression, that is the answer, unless memory runs out.
     ensures only_refused { (rule : Rule) (k : ℕ) → IsRefused ExprText (drop from tokens.now) rule k → ((x : GrownExpr) (j : ℕ) → IsPrefix ExprText (drop from tokens.now) x j → ⊥) → Answers result (Err (refusal rule (from + k))) }
     // And so it is where one is that is too high.
-    ensures only_tall { (rule : Rule) (k : ℕ) → IsTallUpTo (drop from tokens.now) rule k → heads goes_on (drop (from + k) tokens.now) ≡ false → Answers result (Err (refusal rule (from + k))) }
+    ensures only_tall { (rule : Rule) (k : ℕ) → IsTallUpTo (drop from tokens.now) rule k → Answers result (Err (refusal rule (from + k))) }
 {
     let mut cursor = at_number(tokens, from);
     match expr(alloc, &mut cursor) {

@@ -68,7 +68,8 @@ fn statement(alloc: Global, tokens: &mut Cursor<'_>) -> Result<Nest, ReadError>
     }
 }
 
-/// Reads an expression.
+/// Reads an expression from where the cursor stands, for a grammar that has expressions inside. The limits count from its
+/// first token. At an error the cursor stands at the token that is refused.
 pub fn expr(alloc: Global, tokens: &mut Cursor<'_>) -> Result<GrownExpr, ReadError>
     ensures { Reads ((spec.within too_high MAX_OPEN).expr tokens.old) result tokens.new }
 {

@@ -20,7 +20,7 @@ place-requires-clause-within c = at_stop_left _ c.args.from c.requires.within _ 
 
 pub returns-then-too_high-clause-only : goal.returns-then-too_high-clause-only
 unfolding expr
-returns-then-too_high-clause-only c = λ y j is ends.
+returns-then-too_high-clause-only c = λ y j is.
     absurd (at_not_tall _ c.args.from c.requires.within _ c.at_number-cursor.ensures c.in-Ok.x _ c.in-Ok.ensures c.place-end.result c.place-end.ensures y j is (sym c.too_high.ensures ∙ c.if-too_high.true))
 
 pub returns-then-too_high-clause-refused : goal.returns-then-too_high-clause-refused
@@ -36,7 +36,7 @@ returns-then-too_high-clause-only_refused c = λ rule k r none.
 
 pub returns-then-too_high-clause-only_tall : goal.returns-then-too_high-clause-only_tall
 unfolding expr
-returns-then-too_high-clause-only_tall c = λ rule k is ends.
+returns-then-too_high-clause-only_tall c = λ rule k is.
     let same = at_same_tall _ c.args.from c.requires.within _ c.at_number-cursor.ensures c.in-Ok.x _ c.in-Ok.ensures c.place-end.result c.place-end.ensures rule k is in
     inl (ap (λ (r : SyntaxRefusal). let made : Result (Expr × ℕ) SyntaxRefusal = Err r in made) same)
 
@@ -49,7 +49,7 @@ returns-else-too_high-clause-found c =
 
 pub returns-else-too_high-clause-only : goal.returns-else-too_high-clause-only
 unfolding expr
-returns-else-too_high-clause-only c = λ y j is ends.
+returns-else-too_high-clause-only c = λ y j is.
     let same = at_only _ c.args.from c.requires.within _ c.at_number-cursor.ensures c.in-Ok.x _ c.in-Ok.ensures c.place-end.result c.place-end.ensures y j is in
     let e0 = same.0 in
     let e1 = same.1 in
@@ -62,15 +62,15 @@ returns-else-too_high-clause-only_refused c = λ rule k r none.
 
 pub returns-else-too_high-clause-only_tall : goal.returns-else-too_high-clause-only_tall
 unfolding expr
-returns-else-too_high-clause-only_tall c = λ rule k is ends.
+returns-else-too_high-clause-only_tall c = λ rule k is.
     absurd (at_not_low _ c.args.from c.requires.within _ c.at_number-cursor.ensures c.in-Ok.x _ c.in-Ok.ensures c.place-end.result c.place-end.ensures rule k is (sym c.too_high.ensures ∙ c.if-too_high.false))
 
 -- where a token is refused
 
 pub returns-in-Err-Refused-clause-only : goal.returns-in-Err-Refused-clause-only
 unfolding expr
-returns-in-Err-Refused-clause-only c = λ y j is ends.
-    absurd (at_no_expr _ c.args.from c.requires.within _ c.at_number-cursor.ensures c.in-Err-Refused.rule _ (rw c.in-Err-Refused.field-0-is at c.in-Err-Refused.ensures) y j is ends)
+returns-in-Err-Refused-clause-only c = λ y j is.
+    absurd (at_no_expr _ c.args.from c.requires.within _ c.at_number-cursor.ensures c.in-Err-Refused.rule _ (rw c.in-Err-Refused.field-0-is at c.in-Err-Refused.ensures) y j is)
 
 pub returns-in-Err-Refused-clause-refused : goal.returns-in-Err-Refused-clause-refused
 unfolding expr
@@ -88,5 +88,5 @@ returns-in-Err-Refused-clause-only_refused c = λ rule k r none.
 
 pub returns-in-Err-Refused-clause-only_tall : goal.returns-in-Err-Refused-clause-only_tall
 unfolding expr
-returns-in-Err-Refused-clause-only_tall c = λ rule k is ends.
-    absurd (at_no_tall _ c.args.from c.requires.within _ c.at_number-cursor.ensures c.in-Err-Refused.rule _ (rw c.in-Err-Refused.field-0-is at c.in-Err-Refused.ensures) rule k is ends)
+returns-in-Err-Refused-clause-only_tall c = λ rule k is.
+    absurd (at_no_tall _ c.args.from c.requires.within _ c.at_number-cursor.ensures c.in-Err-Refused.rule _ (rw c.in-Err-Refused.field-0-is at c.in-Err-Refused.ensures) rule k is)
