@@ -1,0 +1,330 @@
+//! Cores with their clauses, and selects.
+ghost use Rattle.std.specs.Prelude.{◌≡◌, IfOk};
+ghost use Rattle.sql_grammar.specs.Trees as t;
+
+use crate::held::{boxed_beside, discard, pushed_beside};
+use crate::types::above;
+use ev_value::List;
+use sql_ast::{Body, Core, Select};
+use sql_grammar::{Cores, Grown, GrownColumn, GrownCore, GrownItem, GrownKey, GrownSelect, Places};
+use std::alloc::{AllocError, Global};
+
+fn no_body(alloc: Global) -> Body
+    ensures { result ≡ t.no_body }
+{
+    Body {
+        from: List::new(alloc),
+        condition: None,
+        keys: List::new(alloc),
+        offset: None,
+        limit: None,
+    }
+}
+
+/// A core of one column.
+pub fn first_column(
+    alloc: Global,
+    start: u32,
+    distinct: bool,
+    x: GrownColumn,
+) -> Result<GrownCore, AllocError>
+    ensures { IfOk result (λ made. made ≡ t.first_column start distinct x) }
+{
+    let height = x.height;
+    let (columns, at) = pushed_beside(List::new(alloc), x.column, x.place)?;
+    let (places, columns) = pushed_beside(List::new(alloc), at, columns)?;
+    Ok(GrownCore {
+        start,
+        distinct,
+        columns,
+        body: no_body(alloc),
+        places,
+        height,
+    })
+}
+
+/// The core with a further column.
+pub fn added_column(g: GrownCore, x: GrownColumn) -> Result<GrownCore, AllocError>
+    ensures { IfOk result (λ made. made ≡ t.added_column g x) }
+{
+    let (start, distinct) = (g.start, g.distinct);
+    let height = g.height.max(x.height);
+    let (columns, (places, at, body)) = pushed_beside(
+        g.columns,
+        x.column,
+        (g.places, x.place, g.body),
+    )?;
+    let (places, (columns, body)) = pushed_beside(places, at, (columns, body))?;
+    Ok(GrownCore {
+        start,
+        distinct,
+        columns,
+        body,
+        places,
+        height,
+    })
+}
+
+/// The core with a further item.
+pub fn with_item(g: GrownCore, x: GrownItem) -> Result<GrownCore, AllocError>
+    ensures { IfOk result (λ made. made ≡ t.with_item g x) }
+{
+    let (start, distinct) = (g.start, g.distinct);
+    let height = g.height.max(x.height);
+    let (columns, places) = (g.columns, g.places);
+    let Body {
+        from,
+        condition,
+        keys,
+        offset,
+        limit,
+    } = g.body;
+    let (from, (columns, places, at, condition, keys, offset, limit)) = pushed_beside(
+        from,
+        x.item,
+        (columns, places, x.place, condition, keys, offset, limit),
+    )?;
+    let (places, (columns, from, condition, keys, offset, limit)) = pushed_beside(
+        places,
+        at,
+        (columns, from, condition, keys, offset, limit),
+    )?;
+    Ok(GrownCore {
+        start,
+        distinct,
+        columns,
+        body: Body {
+            from,
+            condition,
+            keys,
+            offset,
+            limit,
+        },
+        places,
+        height,
+    })
+}
+
+/// The core with a condition.
+pub fn with_condition(alloc: Global, g: GrownCore, x: Grown) -> Result<GrownCore, AllocError>
+    ensures { IfOk result (λ made. made ≡ t.with_condition g x) }
+{
+    let (start, distinct) = (g.start, g.distinct);
+    let height = g.height.max(x.height);
+    let (columns, places) = (g.columns, g.places);
+    let Body {
+        from,
+        condition,
+        keys,
+        offset,
+        limit,
+    } = g.body;
+    discard(condition);
+    let (condition, (columns, places, at, from, keys, offset, limit)) = boxed_beside(
+        alloc,
+        x.expr,
+        (columns, places, x.place, from, keys, offset, limit),
+    )?;
+    let condition = Some(condition);
+    let (places, (columns, from, condition, keys, offset, limit)) = pushed_beside(
+        places,
+        at,
+        (columns, from, condition, keys, offset, limit),
+    )?;
+    Ok(GrownCore {
+        start,
+        distinct,
+        columns,
+        body: Body {
+            from,
+            condition,
+            keys,
+            offset,
+            limit,
+        },
+        places,
+        height,
+    })
+}
+
+/// The core with a further key.
+pub fn with_key(g: GrownCore, x: GrownKey) -> Result<GrownCore, AllocError>
+    ensures { IfOk result (λ made. made ≡ t.with_key g x) }
+{
+    let (start, distinct) = (g.start, g.distinct);
+    let height = g.height.max(x.height);
+    let (columns, places) = (g.columns, g.places);
+    let Body {
+        from,
+        condition,
+        keys,
+        offset,
+        limit,
+    } = g.body;
+    let (keys, (columns, places, at, from, condition, offset, limit)) = pushed_beside(
+        keys,
+        x.key,
+        (columns, places, x.place, from, condition, offset, limit),
+    )?;
+    let (places, (columns, from, condition, keys, offset, limit)) = pushed_beside(
+        places,
+        at,
+        (columns, from, condition, keys, offset, limit),
+    )?;
+    Ok(GrownCore {
+        start,
+        distinct,
+        columns,
+        body: Body {
+            from,
+            condition,
+            keys,
+            offset,
+            limit,
+        },
+        places,
+        height,
+    })
+}
+
+/// The core with an offset.
+pub fn with_offset(alloc: Global, g: GrownCore, x: Grown) -> Result<GrownCore, AllocError>
+    ensures { IfOk result (λ made. made ≡ t.with_offset g x) }
+{
+    let (start, distinct) = (g.start, g.distinct);
+    let height = g.height.max(x.height);
+    let (columns, places) = (g.columns, g.places);
+    let Body {
+        from,
+        condition,
+        keys,
+        offset,
+        limit,
+    } = g.body;
+    discard(offset);
+    let (offset, (columns, places, at, from, condition, keys, limit)) = boxed_beside(
+        alloc,
+        x.expr,
+        (columns, places, x.place, from, condition, keys, limit),
+    )?;
+    let offset = Some(offset);
+    let (places, (columns, from, condition, keys, offset, limit)) = pushed_beside(
+        places,
+        at,
+        (columns, from, condition, keys, offset, limit),
+    )?;
+    Ok(GrownCore {
+        start,
+        distinct,
+        columns,
+        body: Body {
+            from,
+            condition,
+            keys,
+            offset,
+            limit,
+        },
+        places,
+        height,
+    })
+}
+
+/// The core with a limit.
+pub fn with_limit(alloc: Global, g: GrownCore, x: Grown) -> Result<GrownCore, AllocError>
+    ensures { IfOk result (λ made. made ≡ t.with_limit g x) }
+{
+    let (start, distinct) = (g.start, g.distinct);
+    let height = g.height.max(x.height);
+    let (columns, places) = (g.columns, g.places);
+    let Body {
+        from,
+        condition,
+        keys,
+        offset,
+        limit,
+    } = g.body;
+    discard(limit);
+    let (limit, (columns, places, at, from, condition, keys, offset)) = boxed_beside(
+        alloc,
+        x.expr,
+        (columns, places, x.place, from, condition, keys, offset),
+    )?;
+    let limit = Some(limit);
+    let (places, (columns, from, condition, keys, offset, limit)) = pushed_beside(
+        places,
+        at,
+        (columns, from, condition, keys, offset, limit),
+    )?;
+    Ok(GrownCore {
+        start,
+        distinct,
+        columns,
+        body: Body {
+            from,
+            condition,
+            keys,
+            offset,
+            limit,
+        },
+        places,
+        height,
+    })
+}
+
+/// The core as it was read, and its place.
+fn core_of(g: GrownCore) -> (Core, Places)
+    ensures core { result.0 ≡ t.core_of g }
+    ensures place { result.1 ≡ Places.At g.start g.places }
+{
+    let place = Places::At(g.start, g.places);
+    if g.distinct {
+        (Core::Distinct(g.columns, g.body), place)
+    } else {
+        (Core::All(g.columns, g.body), place)
+    }
+}
+
+/// One core.
+pub fn first_core(alloc: Global, g: GrownCore) -> Result<Cores, AllocError>
+    ensures { IfOk result (λ made. made ≡ t.first_core g) }
+{
+    let (start, height) = (g.start, g.height);
+    let (core, at) = core_of(g);
+    let (cores, at) = pushed_beside(List::new(alloc), core, at)?;
+    let (places, cores) = pushed_beside(List::new(alloc), at, cores)?;
+    Ok(Cores {
+        start,
+        cores,
+        places,
+        height,
+    })
+}
+
+/// The cores with one more behind them.
+pub fn added_core(all: Cores, g: GrownCore) -> Result<Cores, AllocError>
+    ensures { IfOk result (λ made. made ≡ t.added_core all g) }
+{
+    let start = all.start;
+    let height = all.height.max(g.height);
+    let (core, at) = core_of(g);
+    let (cores, (places, at)) = pushed_beside(all.cores, core, (all.places, at))?;
+    let (places, cores) = pushed_beside(places, at, cores)?;
+    Ok(Cores {
+        start,
+        cores,
+        places,
+        height,
+    })
+}
+
+/// The select of all of its cores.
+pub fn select_of(all: Cores) -> GrownSelect
+    ensures { result ≡ t.select_of all }
+{
+    let height = above(all.height);
+    GrownSelect {
+        select: Select { cores: all.cores },
+        place: Places::At(all.start, all.places),
+        height,
+    }
+}

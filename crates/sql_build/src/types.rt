@@ -1,0 +1,88 @@
+//! Heights and types.
+ghost use Rattle.std.specs.Prelude.{◌≡◌, IfOk};
+ghost use Rattle.sql_grammar.specs.Trees as t;
+
+use crate::held::{list_of, pushed};
+use ev_value::{Boxed, List, ScalarTy};
+use sql_ast::SqlTy;
+use sql_grammar::{GrownTy, MAX_HEIGHT, Types};
+use std::alloc::{AllocError, Global};
+
+/// Whether a tree of this height is too high.
+pub fn too_high(height: usize) -> bool
+    ensures { result ≡ t.too_high height }
+{
+    MAX_HEIGHT < height
+}
+
+/// One more, as long as it counts.
+pub fn above(height: usize) -> usize
+    ensures { result ≡ t.above height }
+{
+    if MAX_HEIGHT < height {
+        height
+    } else {
+        height + 1
+    }
+}
+
+/// A scalar type.
+pub fn scalar_ty(scalar: ScalarTy) -> GrownTy
+    ensures { result ≡ t.scalar_ty scalar }
+{
+    GrownTy {
+        ty: SqlTy::Scalar(scalar),
+        height: 1,
+    }
+}
+
+/// No types.
+pub fn no_types(alloc: Global) -> Types
+    ensures { result ≡ t.no_types }
+{
+    Types {
+        items: List::new(alloc),
+        height: 0,
+    }
+}
+
+/// One type.
+pub fn first_type(alloc: Global, ty: GrownTy) -> Result<Types, AllocError>
+    ensures { IfOk result (λ made. made ≡ t.first_type ty) }
+{
+    let height = ty.height;
+    let items = list_of(alloc, ty.ty)?;
+    Ok(Types { items, height })
+}
+
+/// The types with one more behind them.
+pub fn added_type(all: Types, ty: GrownTy) -> Result<Types, AllocError>
+    ensures { IfOk result (λ made. made ≡ t.added_type all ty) }
+{
+    let height = all.height.max(ty.height);
+    let items = pushed(all.items, ty.ty)?;
+    Ok(Types { items, height })
+}
+
+/// The type of a row.
+pub fn row_ty(all: Types) -> GrownTy
+    ensures { result ≡ t.row_ty all }
+{
+    let height = above(all.height);
+    GrownTy {
+        ty: SqlTy::Row(all.items),
+        height,
+    }
+}
+
+/// The type of an array.
+pub fn array_ty(alloc: Global, ty: GrownTy) -> Result<GrownTy, AllocError>
+    ensures { IfOk result (λ made. made ≡ t.array_ty ty) }
+{
+    let height = above(ty.height);
+    let element = Boxed::new(alloc, ty.ty)?;
+    Ok(GrownTy {
+        ty: SqlTy::Array(element),
+        height,
+    })
+}

@@ -1,0 +1,5 @@
+pub mod Adding
+pub mod Doubling
+pub mod Forms
+pub mod Heads
+pub mod Layouts

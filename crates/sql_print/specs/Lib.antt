@@ -1,0 +1,5 @@
+pub mod Marks
+pub mod Printed
+pub mod Lists
+pub mod Layout
+pub mod Promise
