@@ -4,7 +4,7 @@ ghost use Rattle.sql_grammar.specs.Trees as t;
 
 use crate::held::{boxed_beside, discard, pushed_beside};
 use crate::types::above;
-use ev_value::List;
+use ev_value::{Boxed, List};
 use sql_ast::{Body, Core, Select};
 use sql_grammar::{Cores, Grown, GrownColumn, GrownCore, GrownItem, GrownKey, GrownSelect, Places};
 use std::alloc::{AllocError, Global};
@@ -22,31 +22,40 @@ fn no_body(alloc: Global) -> Body
 }
 
 /// A core of one column.
+#[inline(never)]
 pub fn first_column(
     alloc: Global,
     start: u32,
     distinct: bool,
-    x: GrownColumn,
-) -> Result<GrownCore, AllocError>
+    x: Boxed<GrownColumn>,
+) -> Result<Boxed<GrownCore>, AllocError>
     ensures { IfOk result (λ made. made ≡ t.first_column start distinct x) }
 {
+    let x = x.into_inner();
     let height = x.height;
     let (columns, at) = pushed_beside(List::new(alloc), x.column, x.place)?;
     let (places, columns) = pushed_beside(List::new(alloc), at, columns)?;
-    Ok(GrownCore {
+    let made = GrownCore {
         start,
         distinct,
         columns,
         body: no_body(alloc),
         places,
         height,
-    })
+    };
+    Boxed::new(alloc, made)
 }
 
 /// The core with a further column.
-pub fn added_column(g: GrownCore, x: GrownColumn) -> Result<GrownCore, AllocError>
+#[inline(never)]
+pub fn added_column(
+    alloc: Global,
+    g: Boxed<GrownCore>,
+    x: Boxed<GrownColumn>,
+) -> Result<Boxed<GrownCore>, AllocError>
     ensures { IfOk result (λ made. made ≡ t.added_column g x) }
 {
+    let (g, x) = (g.into_inner(), x.into_inner());
     let (start, distinct) = (g.start, g.distinct);
     let height = g.height.max(x.height);
     let (columns, (places, at, body)) = pushed_beside(
@@ -55,20 +64,27 @@ pub fn added_column(g: GrownCore, x: GrownColumn) -> Result<GrownCore, AllocErro
         (g.places, x.place, g.body),
     )?;
     let (places, (columns, body)) = pushed_beside(places, at, (columns, body))?;
-    Ok(GrownCore {
+    let made = GrownCore {
         start,
         distinct,
         columns,
         body,
         places,
         height,
-    })
+    };
+    Boxed::new(alloc, made)
 }
 
 /// The core with a further item.
-pub fn with_item(g: GrownCore, x: GrownItem) -> Result<GrownCore, AllocError>
+#[inline(never)]
+pub fn with_item(
+    alloc: Global,
+    g: Boxed<GrownCore>,
+    x: Boxed<GrownItem>,
+) -> Result<Boxed<GrownCore>, AllocError>
     ensures { IfOk result (λ made. made ≡ t.with_item g x) }
 {
+    let (g, x) = (g.into_inner(), x.into_inner());
     let (start, distinct) = (g.start, g.distinct);
     let height = g.height.max(x.height);
     let (columns, places) = (g.columns, g.places);
@@ -89,7 +105,7 @@ pub fn with_item(g: GrownCore, x: GrownItem) -> Result<GrownCore, AllocError>
         at,
         (columns, from, condition, keys, offset, limit),
     )?;
-    Ok(GrownCore {
+    let made = GrownCore {
         start,
         distinct,
         columns,
@@ -102,13 +118,20 @@ pub fn with_item(g: GrownCore, x: GrownItem) -> Result<GrownCore, AllocError>
         },
         places,
         height,
-    })
+    };
+    Boxed::new(alloc, made)
 }
 
 /// The core with a condition.
-pub fn with_condition(alloc: Global, g: GrownCore, x: Grown) -> Result<GrownCore, AllocError>
+#[inline(never)]
+pub fn with_condition(
+    alloc: Global,
+    g: Boxed<GrownCore>,
+    x: Boxed<Grown>,
+) -> Result<Boxed<GrownCore>, AllocError>
     ensures { IfOk result (λ made. made ≡ t.with_condition g x) }
 {
+    let (g, x) = (g.into_inner(), x.into_inner());
     let (start, distinct) = (g.start, g.distinct);
     let height = g.height.max(x.height);
     let (columns, places) = (g.columns, g.places);
@@ -131,7 +154,7 @@ pub fn with_condition(alloc: Global, g: GrownCore, x: Grown) -> Result<GrownCore
         at,
         (columns, from, condition, keys, offset, limit),
     )?;
-    Ok(GrownCore {
+    let made = GrownCore {
         start,
         distinct,
         columns,
@@ -144,13 +167,20 @@ pub fn with_condition(alloc: Global, g: GrownCore, x: Grown) -> Result<GrownCore
         },
         places,
         height,
-    })
+    };
+    Boxed::new(alloc, made)
 }
 
 /// The core with a further key.
-pub fn with_key(g: GrownCore, x: GrownKey) -> Result<GrownCore, AllocError>
+#[inline(never)]
+pub fn with_key(
+    alloc: Global,
+    g: Boxed<GrownCore>,
+    x: Boxed<GrownKey>,
+) -> Result<Boxed<GrownCore>, AllocError>
     ensures { IfOk result (λ made. made ≡ t.with_key g x) }
 {
+    let (g, x) = (g.into_inner(), x.into_inner());
     let (start, distinct) = (g.start, g.distinct);
     let height = g.height.max(x.height);
     let (columns, places) = (g.columns, g.places);
@@ -171,7 +201,7 @@ pub fn with_key(g: GrownCore, x: GrownKey) -> Result<GrownCore, AllocError>
         at,
         (columns, from, condition, keys, offset, limit),
     )?;
-    Ok(GrownCore {
+    let made = GrownCore {
         start,
         distinct,
         columns,
@@ -184,13 +214,20 @@ pub fn with_key(g: GrownCore, x: GrownKey) -> Result<GrownCore, AllocError>
         },
         places,
         height,
-    })
+    };
+    Boxed::new(alloc, made)
 }
 
 /// The core with an offset.
-pub fn with_offset(alloc: Global, g: GrownCore, x: Grown) -> Result<GrownCore, AllocError>
+#[inline(never)]
+pub fn with_offset(
+    alloc: Global,
+    g: Boxed<GrownCore>,
+    x: Boxed<Grown>,
+) -> Result<Boxed<GrownCore>, AllocError>
     ensures { IfOk result (λ made. made ≡ t.with_offset g x) }
 {
+    let (g, x) = (g.into_inner(), x.into_inner());
     let (start, distinct) = (g.start, g.distinct);
     let height = g.height.max(x.height);
     let (columns, places) = (g.columns, g.places);
@@ -213,7 +250,7 @@ pub fn with_offset(alloc: Global, g: GrownCore, x: Grown) -> Result<GrownCore, A
         at,
         (columns, from, condition, keys, offset, limit),
     )?;
-    Ok(GrownCore {
+    let made = GrownCore {
         start,
         distinct,
         columns,
@@ -226,13 +263,20 @@ pub fn with_offset(alloc: Global, g: GrownCore, x: Grown) -> Result<GrownCore, A
         },
         places,
         height,
-    })
+    };
+    Boxed::new(alloc, made)
 }
 
 /// The core with a limit.
-pub fn with_limit(alloc: Global, g: GrownCore, x: Grown) -> Result<GrownCore, AllocError>
+#[inline(never)]
+pub fn with_limit(
+    alloc: Global,
+    g: Boxed<GrownCore>,
+    x: Boxed<Grown>,
+) -> Result<Boxed<GrownCore>, AllocError>
     ensures { IfOk result (λ made. made ≡ t.with_limit g x) }
 {
+    let (g, x) = (g.into_inner(), x.into_inner());
     let (start, distinct) = (g.start, g.distinct);
     let height = g.height.max(x.height);
     let (columns, places) = (g.columns, g.places);
@@ -255,7 +299,7 @@ pub fn with_limit(alloc: Global, g: GrownCore, x: Grown) -> Result<GrownCore, Al
         at,
         (columns, from, condition, keys, offset, limit),
     )?;
-    Ok(GrownCore {
+    let made = GrownCore {
         start,
         distinct,
         columns,
@@ -268,7 +312,8 @@ pub fn with_limit(alloc: Global, g: GrownCore, x: Grown) -> Result<GrownCore, Al
         },
         places,
         height,
-    })
+    };
+    Boxed::new(alloc, made)
 }
 
 /// The core as it was read, and its place.
@@ -285,46 +330,59 @@ fn core_of(g: GrownCore) -> (Core, Places)
 }
 
 /// One core.
-pub fn first_core(alloc: Global, g: GrownCore) -> Result<Cores, AllocError>
+#[inline(never)]
+pub fn first_core(alloc: Global, g: Boxed<GrownCore>) -> Result<Boxed<Cores>, AllocError>
     ensures { IfOk result (λ made. made ≡ t.first_core g) }
 {
+    let g = g.into_inner();
     let (start, height) = (g.start, g.height);
     let (core, at) = core_of(g);
     let (cores, at) = pushed_beside(List::new(alloc), core, at)?;
     let (places, cores) = pushed_beside(List::new(alloc), at, cores)?;
-    Ok(Cores {
+    let made = Cores {
         start,
         cores,
         places,
         height,
-    })
+    };
+    Boxed::new(alloc, made)
 }
 
 /// The cores with one more behind them.
-pub fn added_core(all: Cores, g: GrownCore) -> Result<Cores, AllocError>
+#[inline(never)]
+pub fn added_core(
+    alloc: Global,
+    all: Boxed<Cores>,
+    g: Boxed<GrownCore>,
+) -> Result<Boxed<Cores>, AllocError>
     ensures { IfOk result (λ made. made ≡ t.added_core all g) }
 {
+    let (all, g) = (all.into_inner(), g.into_inner());
     let start = all.start;
     let height = all.height.max(g.height);
     let (core, at) = core_of(g);
     let (cores, (places, at)) = pushed_beside(all.cores, core, (all.places, at))?;
     let (places, cores) = pushed_beside(places, at, cores)?;
-    Ok(Cores {
+    let made = Cores {
         start,
         cores,
         places,
         height,
-    })
+    };
+    Boxed::new(alloc, made)
 }
 
 /// The select of all of its cores.
-pub fn select_of(all: Cores) -> GrownSelect
-    ensures { result ≡ t.select_of all }
+#[inline(never)]
+pub fn select_of(alloc: Global, all: Boxed<Cores>) -> Result<Boxed<GrownSelect>, AllocError>
+    ensures { IfOk result (λ made. made ≡ t.select_of all) }
 {
+    let all = all.into_inner();
     let height = above(all.height);
-    GrownSelect {
+    let found = GrownSelect {
         select: Select { cores: all.cores },
         place: Places::At(all.start, all.places),
         height,
-    }
+    };
+    Boxed::new(alloc, found)
 }

@@ -2,164 +2,182 @@
 ghost use Rattle.std.specs.Prelude.{◌≡◌, [], IfOk};
 ghost use Rattle.sql_grammar.specs.Trees as t;
 
-use crate::held::{below, boxed_beside, pushed_beside, round_beside};
+use crate::held::{below, boxed_beside, placed, pushed_beside, round_beside};
 use crate::types::above;
-use ev_value::{List, Text};
+use ev_value::{Boxed, List, Text};
 use sql_ast::{Case, SqlExpr};
 use sql_grammar::{Bunch, Called, Grown, GrownSelect, GrownTy, Name, Places};
 use std::alloc::{AllocError, Global};
 
-fn bare(alloc: Global, start: u32, expr: SqlExpr, height: usize) -> Grown
-    ensures { result ≡ t.node start expr [] height }
+fn bare(alloc: Global, start: u32, expr: SqlExpr, height: usize) -> Result<Boxed<Grown>, AllocError>
+    ensures { IfOk result (λ made. made ≡ t.node start expr [] height) }
 {
-    Grown {
-        expr,
-        place: Places::At(start, List::new(alloc)),
+    placed(
+        alloc,
         start,
+        expr,
+        Places::At(start, List::new(alloc)),
         height,
-    }
+    )
 }
 
 /// An expression in parentheses, which are no node.
-pub fn grouped(start: u32, x: Grown) -> Grown
-    ensures { result ≡ t.grouped start x }
+#[inline(never)]
+pub fn grouped(alloc: Global, start: u32, x: Boxed<Grown>) -> Result<Boxed<Grown>, AllocError>
+    ensures { IfOk result (λ made. made ≡ t.grouped start x) }
 {
-    Grown {
-        expr: x.expr,
-        place: x.place,
-        start,
-        height: x.height,
-    }
+    let x = x.into_inner();
+    placed(alloc, start, x.expr, x.place, x.height)
 }
 
 /// `UUID 'id'`
-pub fn uuid(alloc: Global, start: u32, id: u128) -> Grown
-    ensures { result ≡ t.uuid start id }
+#[inline(never)]
+pub fn uuid(alloc: Global, start: u32, id: u128) -> Result<Boxed<Grown>, AllocError>
+    ensures { IfOk result (λ made. made ≡ t.uuid start id) }
 {
     bare(alloc, start, SqlExpr::Uuid(id), 1)
 }
 
 /// `NULL::ty`
-pub fn null_of(alloc: Global, start: u32, ty: GrownTy) -> Grown
-    ensures { result ≡ t.null_of start ty }
+#[inline(never)]
+pub fn null_of(alloc: Global, start: u32, ty: Boxed<GrownTy>) -> Result<Boxed<Grown>, AllocError>
+    ensures { IfOk result (λ made. made ≡ t.null_of start ty) }
 {
+    let ty = ty.into_inner();
     let height = above(ty.height);
     bare(alloc, start, SqlExpr::Null(ty.ty), height)
 }
 
 /// `"alias"."name"`
-pub fn column(alloc: Global, alias: Name, name: Name) -> Grown
-    ensures { result ≡ t.column alias name }
+#[inline(never)]
+pub fn column(alloc: Global, alias: Name, name: Name) -> Result<Boxed<Grown>, AllocError>
+    ensures { IfOk result (λ made. made ≡ t.column alias name) }
 {
     let start = alias.start;
     bare(alloc, start, SqlExpr::Column(alias.text, name.text), 1)
 }
 
 /// `ARG('name', ty)`
-pub fn argument(alloc: Global, start: u32, name: Text, ty: GrownTy) -> Grown
-    ensures { result ≡ t.argument start name ty }
+#[inline(never)]
+pub fn argument(
+    alloc: Global,
+    start: u32,
+    name: Text,
+    ty: Boxed<GrownTy>,
+) -> Result<Boxed<Grown>, AllocError>
+    ensures { IfOk result (λ made. made ≡ t.argument start name ty) }
 {
+    let ty = ty.into_inner();
     let height = above(ty.height);
     bare(alloc, start, SqlExpr::Arg(name, ty.ty), height)
 }
 
 /// `GLOBAL('name')`
-pub fn global(alloc: Global, start: u32, name: Text) -> Grown
-    ensures { result ≡ t.global start name }
+#[inline(never)]
+pub fn global(alloc: Global, start: u32, name: Text) -> Result<Boxed<Grown>, AllocError>
+    ensures { IfOk result (λ made. made ≡ t.global start name) }
 {
     bare(alloc, start, SqlExpr::Global(name), 1)
 }
 
 /// `ARRAY(select)`
-pub fn array(alloc: Global, start: u32, s: GrownSelect) -> Result<Grown, AllocError>
+#[inline(never)]
+pub fn array(alloc: Global, start: u32, s: Boxed<GrownSelect>) -> Result<Boxed<Grown>, AllocError>
     ensures { IfOk result (λ made. made ≡ t.array start s) }
 {
+    let s = s.into_inner();
     let height = above(s.height);
     let (place, select) = round_beside(alloc, start, s.place, s.select)?;
-    Ok(Grown {
-        expr: SqlExpr::Array(select),
-        place,
-        start,
-        height,
-    })
+    placed(alloc, start, SqlExpr::Array(select), place, height)
 }
 
 /// No expressions.
-pub fn nothing_yet(alloc: Global) -> Bunch
-    ensures { result ≡ t.nothing_yet }
+pub fn nothing_yet(alloc: Global) -> Result<Boxed<Bunch>, AllocError>
+    ensures { IfOk result (λ made. made ≡ t.nothing_yet) }
 {
-    Bunch {
+    let made = Bunch {
         items: List::new(alloc),
         places: List::new(alloc),
         height: 0,
-    }
+    };
+    Boxed::new(alloc, made)
 }
 
 /// One expression.
-pub fn alone(alloc: Global, x: Grown) -> Result<Bunch, AllocError>
+#[inline(never)]
+pub fn alone(alloc: Global, x: Boxed<Grown>) -> Result<Boxed<Bunch>, AllocError>
     ensures { IfOk result (λ made. made ≡ t.alone x) }
 {
+    let x = x.into_inner();
     let height = x.height;
     let (items, place) = pushed_beside(List::new(alloc), x.expr, x.place)?;
     let (places, items) = pushed_beside(List::new(alloc), place, items)?;
-    Ok(Bunch {
+    let made = Bunch {
         items,
         places,
         height,
-    })
+    };
+    Boxed::new(alloc, made)
 }
 
 /// The expressions with one more behind them.
-pub fn added(all: Bunch, x: Grown) -> Result<Bunch, AllocError>
+#[inline(never)]
+pub fn added(alloc: Global, all: Boxed<Bunch>, x: Boxed<Grown>) -> Result<Boxed<Bunch>, AllocError>
     ensures { IfOk result (λ made. made ≡ t.added all x) }
 {
+    let (all, x) = (all.into_inner(), x.into_inner());
     let height = all.height.max(x.height);
     let (items, (places, place)) = pushed_beside(all.items, x.expr, (all.places, x.place))?;
     let (places, items) = pushed_beside(places, place, items)?;
-    Ok(Bunch {
+    let made = Bunch {
         items,
         places,
         height,
-    })
+    };
+    Boxed::new(alloc, made)
 }
 
 /// `ROW(first, ..)`
-pub fn row(start: u32, all: Bunch) -> Grown
-    ensures { result ≡ t.row start all }
+#[inline(never)]
+pub fn row(alloc: Global, start: u32, all: Boxed<Bunch>) -> Result<Boxed<Grown>, AllocError>
+    ensures { IfOk result (λ made. made ≡ t.row start all) }
 {
+    let all = all.into_inner();
     let height = above(all.height);
-    Grown {
-        expr: SqlExpr::Row(all.items),
-        place: Places::At(start, all.places),
-        start,
-        height,
-    }
+    let place = Places::At(start, all.places);
+    placed(alloc, start, SqlExpr::Row(all.items), place, height)
 }
 
 /// `PART(row, number)`
-pub fn part(alloc: Global, start: u32, x: Grown, number: i64) -> Result<Grown, AllocError>
+#[inline(never)]
+pub fn part(
+    alloc: Global,
+    start: u32,
+    x: Boxed<Grown>,
+    number: i64,
+) -> Result<Boxed<Grown>, AllocError>
     ensures { IfOk result (λ made. made ≡ t.part start x number) }
 {
+    let x = x.into_inner();
     let height = above(x.height);
     let (expr, place) = below(alloc, start, x)?;
-    Ok(Grown {
-        expr: SqlExpr::Part(expr, number),
-        place,
-        start,
-        height,
-    })
+    placed(alloc, start, SqlExpr::Part(expr, number), place, height)
 }
 
 /// `CASE WHEN condition THEN value ELSE other END`
+#[inline(never)]
 pub fn case_of(
     alloc: Global,
     start: u32,
-    condition: Grown,
-    value: Grown,
-    other: Grown,
-) -> Result<Grown, AllocError>
+    condition: Boxed<Grown>,
+    value: Boxed<Grown>,
+    other: Boxed<Grown>,
+) -> Result<Boxed<Grown>, AllocError>
     ensures { IfOk result (λ made. made ≡ t.case_of start condition value other) }
 {
+    let condition = condition.into_inner();
+    let value = value.into_inner();
+    let other = other.into_inner();
     let height = above(condition.height.max(value.height.max(other.height)));
     let (first, (second, third, a, b, c)) = boxed_beside(
         alloc,
@@ -181,43 +199,44 @@ pub fn case_of(
     )?;
     let (inner, (first, second, third, c)) = pushed_beside(inner, b, (first, second, third, c))?;
     let (inner, (first, second, third)) = pushed_beside(inner, c, (first, second, third))?;
-    Ok(Grown {
-        expr: SqlExpr::Case(Case {
-            condition: first,
-            value: second,
-            other: third,
-        }),
-        place: Places::At(start, inner),
-        start,
-        height,
-    })
+    let form = SqlExpr::Case(Case {
+        condition: first,
+        value: second,
+        other: third,
+    });
+    placed(alloc, start, form, Places::At(start, inner), height)
 }
 
 /// `CAST(x AS ty)`
-pub fn cast(alloc: Global, start: u32, x: Grown, ty: GrownTy) -> Result<Grown, AllocError>
+#[inline(never)]
+pub fn cast(
+    alloc: Global,
+    start: u32,
+    x: Boxed<Grown>,
+    ty: Boxed<GrownTy>,
+) -> Result<Boxed<Grown>, AllocError>
     ensures { IfOk result (λ made. made ≡ t.cast start x ty) }
 {
+    let (x, ty) = (x.into_inner(), ty.into_inner());
     let height = above(x.height.max(ty.height));
     let (expr, (place, ty)) = boxed_beside(alloc, x.expr, (x.place, ty.ty))?;
     let (place, (expr, ty)) = round_beside(alloc, start, place, (expr, ty))?;
-    Ok(Grown {
-        expr: SqlExpr::Cast(expr, ty),
-        place,
-        start,
-        height,
-    })
+    placed(alloc, start, SqlExpr::Cast(expr, ty), place, height)
 }
 
 /// A function of an expression.
-pub fn call(alloc: Global, found: Called, x: Grown) -> Result<Grown, AllocError>
+#[inline(never)]
+pub fn call(alloc: Global, found: Called, x: Boxed<Grown>) -> Result<Boxed<Grown>, AllocError>
     ensures { IfOk result (λ made. made ≡ t.call found x) }
 {
+    let x = x.into_inner();
     let height = above(x.height);
     let (expr, place) = below(alloc, found.start, x)?;
-    Ok(Grown {
-        expr: SqlExpr::Call(found.function, expr),
+    placed(
+        alloc,
+        found.start,
+        SqlExpr::Call(found.function, expr),
         place,
-        start: found.start,
         height,
-    })
+    )
 }

@@ -76,6 +76,25 @@ pub fn below(alloc: Global, start: u32, x: Grown) -> Result<(Boxed<SqlExpr>, Pla
     Ok((expr, Places::At(start, inner)))
 }
 
+/// The expression with its places and its height, in memory of its own.
+pub fn placed(
+    alloc: Global,
+    start: u32,
+    expr: SqlExpr,
+    place: Places,
+    height: usize,
+) -> Result<Boxed<Grown>, AllocError>
+    ensures { IfOk result (λ made. made ≡ record { expr = expr; place = place; start = start; height = height }) }
+{
+    let found = Grown {
+        expr,
+        place,
+        start,
+        height,
+    };
+    Boxed::new(alloc, found)
+}
+
 /// The place of a node round one part.
 pub fn round(alloc: Global, start: u32, place: Places) -> Result<Places, AllocError>
     ensures { IfOk result (λ made. made ≡ places.At start (place ∷ [])) }

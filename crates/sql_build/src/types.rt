@@ -27,13 +27,15 @@ pub fn above(height: usize) -> usize
 }
 
 /// A scalar type.
-pub fn scalar_ty(scalar: ScalarTy) -> GrownTy
-    ensures { result ≡ t.scalar_ty scalar }
+#[inline(never)]
+pub fn scalar_ty(alloc: Global, scalar: ScalarTy) -> Result<Boxed<GrownTy>, AllocError>
+    ensures { IfOk result (λ made. made ≡ t.scalar_ty scalar) }
 {
-    GrownTy {
+    let found = GrownTy {
         ty: SqlTy::Scalar(scalar),
         height: 1,
-    }
+    };
+    Boxed::new(alloc, found)
 }
 
 /// No types.
@@ -47,42 +49,51 @@ pub fn no_types(alloc: Global) -> Types
 }
 
 /// One type.
-pub fn first_type(alloc: Global, ty: GrownTy) -> Result<Types, AllocError>
+#[inline(never)]
+pub fn first_type(alloc: Global, ty: Boxed<GrownTy>) -> Result<Types, AllocError>
     ensures { IfOk result (λ made. made ≡ t.first_type ty) }
 {
+    let ty = ty.into_inner();
     let height = ty.height;
     let items = list_of(alloc, ty.ty)?;
     Ok(Types { items, height })
 }
 
 /// The types with one more behind them.
-pub fn added_type(all: Types, ty: GrownTy) -> Result<Types, AllocError>
+#[inline(never)]
+pub fn added_type(all: Types, ty: Boxed<GrownTy>) -> Result<Types, AllocError>
     ensures { IfOk result (λ made. made ≡ t.added_type all ty) }
 {
+    let ty = ty.into_inner();
     let height = all.height.max(ty.height);
     let items = pushed(all.items, ty.ty)?;
     Ok(Types { items, height })
 }
 
 /// The type of a row.
-pub fn row_ty(all: Types) -> GrownTy
-    ensures { result ≡ t.row_ty all }
+#[inline(never)]
+pub fn row_ty(alloc: Global, all: Types) -> Result<Boxed<GrownTy>, AllocError>
+    ensures { IfOk result (λ made. made ≡ t.row_ty all) }
 {
     let height = above(all.height);
-    GrownTy {
+    let found = GrownTy {
         ty: SqlTy::Row(all.items),
         height,
-    }
+    };
+    Boxed::new(alloc, found)
 }
 
 /// The type of an array.
-pub fn array_ty(alloc: Global, ty: GrownTy) -> Result<GrownTy, AllocError>
+#[inline(never)]
+pub fn array_ty(alloc: Global, ty: Boxed<GrownTy>) -> Result<Boxed<GrownTy>, AllocError>
     ensures { IfOk result (λ made. made ≡ t.array_ty ty) }
 {
+    let ty = ty.into_inner();
     let height = above(ty.height);
     let element = Boxed::new(alloc, ty.ty)?;
-    Ok(GrownTy {
+    let found = GrownTy {
         ty: SqlTy::Array(element),
         height,
-    })
+    };
+    Boxed::new(alloc, found)
 }

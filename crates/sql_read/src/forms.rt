@@ -1,6 +1,7 @@
 //! What holds no operator of its own.
 ghost use Rattle.std.specs.Prelude.{◌≡◌, ◌<◌, ◌==◌};
-ghost use Rattle.exact.specs.Reading.{Reads};
+ghost use Rattle.exact.specs.Reading.{Reads, one};
+ghost use Rattle.sql_grammar.specs.Words.{literal_of};
 ghost use Rattle.sql_grammar.specs.Readers as spec;
 ghost use Rattle.sql_grammar.specs.Trees as t;
 ghost use Rattle.sql_grammar.specs.Trees.{too_high};
@@ -8,6 +9,7 @@ ghost use Rattle.sql_read.specs.Nests.{Nests};
 
 use crate::grammar::Grammar;
 use crate::part::{Level, Open, Part};
+use ev_value::Boxed;
 use exact::ReadError;
 use sql_build::{
     added, alone, argument, array, call, case_of, cast, column, global, holding, nothing_yet,
@@ -22,44 +24,44 @@ impl<F: Fn(Global, &mut Cursor<'_>, usize, Open) -> Result<Part, ReadError>> Gra
     /// `UUID 'id'`
     #[inline(never)]
     #[tactic(auto, unfolding(sql_grammar::specs::Readers::uuid_text))]
-    fn uuid_text(&self, tokens: &mut Cursor<'_>) -> Result<Grown, ReadError>
+    fn uuid_text(&self, tokens: &mut Cursor<'_>) -> Result<Boxed<Grown>, ReadError>
         requires { Nests self.now.depth (F.pre self.now.inner) (F.post self.now.inner) }
         ensures { Reads (spec.uuid_text self.now.depth too_high (spec.inside too_high self.now.depth) tokens.old) result tokens.new }
     {
         let start = tokens.expect_word(false, Keyword::Uuid)?;
         let id = tokens.id(self.alloc)?;
-        Ok(uuid(self.alloc, start, id))
+        Ok(uuid(self.alloc, start, id)?)
     }
 
     /// `NULL::ty`
     #[inline(never)]
     #[tactic(auto, unfolding(sql_grammar::specs::Readers::null_ty))]
-    fn null_ty(&self, tokens: &mut Cursor<'_>) -> Result<Grown, ReadError>
+    fn null_ty(&self, tokens: &mut Cursor<'_>) -> Result<Boxed<Grown>, ReadError>
         requires { Nests self.now.depth (F.pre self.now.inner) (F.post self.now.inner) }
         ensures { Reads (spec.null_ty self.now.depth too_high (spec.inside too_high self.now.depth) tokens.old) result tokens.new }
     {
         let start = tokens.expect_word(false, Keyword::Null)?;
         tokens.expect(false, Sign::Cast)?;
         let ty = self.ty_of(tokens)?;
-        Ok(null_of(self.alloc, start, ty))
+        Ok(null_of(self.alloc, start, ty)?)
     }
 
     /// A column of an alias.
     #[inline(never)]
     #[tactic(auto, unfolding(sql_grammar::specs::Readers::reference))]
-    fn reference(&self, tokens: &mut Cursor<'_>) -> Result<Grown, ReadError>
+    fn reference(&self, tokens: &mut Cursor<'_>) -> Result<Boxed<Grown>, ReadError>
         requires { Nests self.now.depth (F.pre self.now.inner) (F.post self.now.inner) }
         ensures { Reads (spec.reference self.now.depth too_high (spec.inside too_high self.now.depth) tokens.old) result tokens.new }
     {
         let alias = tokens.name(self.alloc)?;
         holding!(alias, tokens.expect(false, Sign::Dot));
         let name = holding!(alias, tokens.name(self.alloc));
-        Ok(column(self.alloc, alias, name))
+        Ok(column(self.alloc, alias, name)?)
     }
 
     /// An argument.
     #[tactic(auto, unfolding(sql_grammar::specs::Readers::argument_of, sql_grammar::specs::Readers::opening))]
-    fn argument_of(&self, tokens: &mut Cursor<'_>) -> Result<Grown, ReadError>
+    fn argument_of(&self, tokens: &mut Cursor<'_>) -> Result<Boxed<Grown>, ReadError>
         requires { Nests self.now.depth (F.pre self.now.inner) (F.post self.now.inner) }
         ensures { Reads (spec.argument_of self.now.depth too_high (spec.inside too_high self.now.depth) tokens.old) result tokens.new }
     {
@@ -69,12 +71,12 @@ impl<F: Fn(Global, &mut Cursor<'_>, usize, Open) -> Result<Part, ReadError>> Gra
         holding!(name, tokens.expect(false, Sign::Comma));
         let ty = holding!(name, self.open_ty(tokens));
         holding!((name, ty), tokens.expect(false, Sign::RightParen));
-        Ok(argument(self.alloc, start, name, ty))
+        Ok(argument(self.alloc, start, name, ty)?)
     }
 
     /// A global.
     #[tactic(auto, unfolding(sql_grammar::specs::Readers::global_text, sql_grammar::specs::Readers::opening))]
-    fn global_text(&self, tokens: &mut Cursor<'_>) -> Result<Grown, ReadError>
+    fn global_text(&self, tokens: &mut Cursor<'_>) -> Result<Boxed<Grown>, ReadError>
         requires { Nests self.now.depth (F.pre self.now.inner) (F.post self.now.inner) }
         ensures { Reads (spec.global_text self.now.depth too_high (spec.inside too_high self.now.depth) tokens.old) result tokens.new }
     {
@@ -82,12 +84,12 @@ impl<F: Fn(Global, &mut Cursor<'_>, usize, Open) -> Result<Part, ReadError>> Gra
         tokens.expect(self.depth == 0, Sign::LeftParen)?;
         let name = tokens.text(self.alloc)?;
         holding!(name, tokens.expect(false, Sign::RightParen));
-        Ok(global(self.alloc, start, name))
+        Ok(global(self.alloc, start, name)?)
     }
 
     /// An array of the rows of a select.
     #[tactic(auto, unfolding(sql_grammar::specs::Readers::array_of))]
-    fn array_of(&self, tokens: &mut Cursor<'_>) -> Result<Grown, ReadError>
+    fn array_of(&self, tokens: &mut Cursor<'_>) -> Result<Boxed<Grown>, ReadError>
         requires { Nests self.now.depth (F.pre self.now.inner) (F.post self.now.inner) }
         ensures { Reads (spec.array_of self.now.depth too_high (spec.inside too_high self.now.depth) tokens.old) result tokens.new }
     {
@@ -98,7 +100,11 @@ impl<F: Fn(Global, &mut Cursor<'_>, usize, Open) -> Result<Part, ReadError>> Gra
 
     /// Further expressions, each behind a comma.
     #[tactic(auto, using(exact::proofs::Turns::chain_stays, exact::proofs::Turns::chain_over, exact::proofs::Turns::chain_turn))]
-    fn further_exprs(&self, tokens: &mut Cursor<'_>, first: Bunch) -> Result<Bunch, ReadError>
+    fn further_exprs(
+        &self,
+        tokens: &mut Cursor<'_>,
+        first: Boxed<Bunch>,
+    ) -> Result<Boxed<Bunch>, ReadError>
         requires nests { Nests self.now.depth (F.pre self.now.inner) (F.post self.now.inner) }
         requires deeper { 0 < self.now.depth }
         ensures { Reads (spec.further (spec.inside too_high self.now.depth).expr t.added first tokens.old) result tokens.new }
@@ -110,21 +116,21 @@ impl<F: Fn(Global, &mut Cursor<'_>, usize, Open) -> Result<Part, ReadError>> Gra
             }
             holding!(all, tokens.expect(false, Sign::Comma));
             let x = holding!(all, self.open_expr(tokens, Level::Expr));
-            all = added(all, x)?;
+            all = added(self.alloc, all, x)?;
         }
         Ok(all)
     }
 
     /// Expressions in parentheses.
     #[tactic(auto, unfolding(sql_grammar::specs::Readers::exprs_within, sql_grammar::specs::Readers::opening))]
-    fn exprs_within(&self, tokens: &mut Cursor<'_>) -> Result<Bunch, ReadError>
+    fn exprs_within(&self, tokens: &mut Cursor<'_>) -> Result<Boxed<Bunch>, ReadError>
         requires { Nests self.now.depth (F.pre self.now.inner) (F.post self.now.inner) }
         ensures { Reads (spec.exprs_within self.now.depth too_high (spec.inside too_high self.now.depth) tokens.old) result tokens.new }
     {
         tokens.expect(self.depth == 0, Sign::LeftParen)?;
         if tokens.sees(Sign::RightParen) {
             tokens.expect(false, Sign::RightParen)?;
-            return Ok(nothing_yet(self.alloc));
+            return Ok(nothing_yet(self.alloc)?);
         }
         let first = self.open_expr(tokens, Level::Expr)?;
         let all = self.further_exprs(tokens, alone(self.alloc, first)?)?;
@@ -134,18 +140,18 @@ impl<F: Fn(Global, &mut Cursor<'_>, usize, Open) -> Result<Part, ReadError>> Gra
 
     /// A row.
     #[tactic(auto, unfolding(sql_grammar::specs::Readers::row_of))]
-    fn row_of(&self, tokens: &mut Cursor<'_>) -> Result<Grown, ReadError>
+    fn row_of(&self, tokens: &mut Cursor<'_>) -> Result<Boxed<Grown>, ReadError>
         requires { Nests self.now.depth (F.pre self.now.inner) (F.post self.now.inner) }
         ensures { Reads (spec.row_of self.now.depth too_high (spec.inside too_high self.now.depth) tokens.old) result tokens.new }
     {
         let start = tokens.expect_word(false, Keyword::Row)?;
         let all = self.exprs_within(tokens)?;
-        Ok(row(start, all))
+        Ok(row(self.alloc, start, all)?)
     }
 
     /// A part of a row.
     #[tactic(auto, unfolding(sql_grammar::specs::Readers::part_of, sql_grammar::specs::Readers::opening))]
-    fn part_of(&self, tokens: &mut Cursor<'_>) -> Result<Grown, ReadError>
+    fn part_of(&self, tokens: &mut Cursor<'_>) -> Result<Boxed<Grown>, ReadError>
         requires { Nests self.now.depth (F.pre self.now.inner) (F.post self.now.inner) }
         ensures { Reads (spec.part_of self.now.depth too_high (spec.inside too_high self.now.depth) tokens.old) result tokens.new }
     {
@@ -160,7 +166,7 @@ impl<F: Fn(Global, &mut Cursor<'_>, usize, Open) -> Result<Part, ReadError>> Gra
 
     /// A choice.
     #[tactic(auto, unfolding(sql_grammar::specs::Readers::case_when))]
-    fn case_when(&self, tokens: &mut Cursor<'_>) -> Result<Grown, ReadError>
+    fn case_when(&self, tokens: &mut Cursor<'_>) -> Result<Boxed<Grown>, ReadError>
         requires { Nests self.now.depth (F.pre self.now.inner) (F.post self.now.inner) }
         ensures { Reads (spec.case_when self.now.depth too_high (spec.inside too_high self.now.depth) tokens.old) result tokens.new }
     {
@@ -180,7 +186,7 @@ impl<F: Fn(Global, &mut Cursor<'_>, usize, Open) -> Result<Part, ReadError>> Gra
 
     /// A cast.
     #[tactic(auto, unfolding(sql_grammar::specs::Readers::cast_of, sql_grammar::specs::Readers::opening))]
-    fn cast_of(&self, tokens: &mut Cursor<'_>) -> Result<Grown, ReadError>
+    fn cast_of(&self, tokens: &mut Cursor<'_>) -> Result<Boxed<Grown>, ReadError>
         requires { Nests self.now.depth (F.pre self.now.inner) (F.post self.now.inner) }
         ensures { Reads (spec.cast_of self.now.depth too_high (spec.inside too_high self.now.depth) tokens.old) result tokens.new }
     {
@@ -195,7 +201,7 @@ impl<F: Fn(Global, &mut Cursor<'_>, usize, Open) -> Result<Part, ReadError>> Gra
 
     /// A function of an expression.
     #[tactic(auto, unfolding(sql_grammar::specs::Readers::call_of))]
-    fn call_of(&self, tokens: &mut Cursor<'_>) -> Result<Grown, ReadError>
+    fn call_of(&self, tokens: &mut Cursor<'_>) -> Result<Boxed<Grown>, ReadError>
         requires { Nests self.now.depth (F.pre self.now.inner) (F.post self.now.inner) }
         ensures { Reads (spec.call_of self.now.depth too_high (spec.inside too_high self.now.depth) tokens.old) result tokens.new }
     {
@@ -207,7 +213,7 @@ impl<F: Fn(Global, &mut Cursor<'_>, usize, Open) -> Result<Part, ReadError>> Gra
     /// A form with a word of its own.
     #[inline(never)]
     #[tactic(auto, unfolding(sql_grammar::specs::Readers::form))]
-    fn form(&self, tokens: &mut Cursor<'_>) -> Result<Grown, ReadError>
+    fn form(&self, tokens: &mut Cursor<'_>) -> Result<Boxed<Grown>, ReadError>
         requires { Nests self.now.depth (F.pre self.now.inner) (F.post self.now.inner) }
         ensures { Reads (spec.form self.now.depth too_high (spec.inside too_high self.now.depth) tokens.old) result tokens.new }
     {
@@ -235,9 +241,18 @@ impl<F: Fn(Global, &mut Cursor<'_>, usize, Open) -> Result<Part, ReadError>> Gra
         self.call_of(tokens)
     }
 
+    /// A number, a text, `TRUE` or `FALSE`.
+    #[inline(never)]
+    fn literal(&self, tokens: &mut Cursor<'_>) -> Result<Boxed<Grown>, ReadError>
+        ensures { Reads (one literal_of tokens.old) result tokens.new }
+    {
+        let x = tokens.literal(self.alloc)?;
+        Ok(Boxed::new(self.alloc, x)?)
+    }
+
     /// What holds no operator of its own.
     #[tactic(auto, unfolding(sql_grammar::specs::Readers::prim))]
-    pub fn prim(&self, tokens: &mut Cursor<'_>) -> Result<Grown, ReadError>
+    pub fn prim(&self, tokens: &mut Cursor<'_>) -> Result<Boxed<Grown>, ReadError>
         requires { Nests self.now.depth (F.pre self.now.inner) (F.post self.now.inner) }
         ensures { Reads (spec.prim self.now.depth too_high (spec.inside too_high self.now.depth) tokens.old) result tokens.new }
     {
@@ -245,7 +260,7 @@ impl<F: Fn(Global, &mut Cursor<'_>, usize, Open) -> Result<Part, ReadError>> Gra
             return self.within_parens(tokens);
         }
         if tokens.sees_start(Start::Literal) {
-            return tokens.literal(self.alloc);
+            return self.literal(tokens);
         }
         if tokens.sees_start(Start::Uuid) {
             return self.uuid_text(tokens);

@@ -8,6 +8,7 @@ ghost use Rattle.sql_read.specs.Nests.{Nests};
 ghost use Rattle.sql_read.specs.Parts.{ReadsPart, level_of};
 
 use crate::part::{Level, Open, Part};
+use ev_value::Boxed;
 use exact::ReadError;
 use sql_cursor::Cursor;
 use sql_grammar::{Grown, GrownSelect, GrownTy};
@@ -31,7 +32,11 @@ impl<F: Fn(Global, &mut Cursor<'_>, usize, Open) -> Result<Part, ReadError>> Gra
     }
 
     /// An expression in an open part.
-    pub fn open_expr(&self, tokens: &mut Cursor<'_>, level: Level) -> Result<Grown, ReadError>
+    pub fn open_expr(
+        &self,
+        tokens: &mut Cursor<'_>,
+        level: Level,
+    ) -> Result<Boxed<Grown>, ReadError>
         requires nests { Nests self.now.depth (F.pre self.now.inner) (F.post self.now.inner) }
         requires deeper { 0 < self.now.depth }
         ensures { Reads (level_of level (spec.inside too_high self.now.depth) tokens.old) result tokens.new }
@@ -43,7 +48,7 @@ impl<F: Fn(Global, &mut Cursor<'_>, usize, Open) -> Result<Part, ReadError>> Gra
     }
 
     /// A select in an open part.
-    pub fn open_select(&self, tokens: &mut Cursor<'_>) -> Result<GrownSelect, ReadError>
+    pub fn open_select(&self, tokens: &mut Cursor<'_>) -> Result<Boxed<GrownSelect>, ReadError>
         requires nests { Nests self.now.depth (F.pre self.now.inner) (F.post self.now.inner) }
         requires deeper { 0 < self.now.depth }
         ensures { Reads ((spec.inside too_high self.now.depth).select tokens.old) result tokens.new }
@@ -55,7 +60,7 @@ impl<F: Fn(Global, &mut Cursor<'_>, usize, Open) -> Result<Part, ReadError>> Gra
     }
 
     /// A type in an open part.
-    pub fn open_ty(&self, tokens: &mut Cursor<'_>) -> Result<GrownTy, ReadError>
+    pub fn open_ty(&self, tokens: &mut Cursor<'_>) -> Result<Boxed<GrownTy>, ReadError>
         requires nests { Nests self.now.depth (F.pre self.now.inner) (F.post self.now.inner) }
         requires deeper { 0 < self.now.depth }
         ensures { Reads ((spec.inside too_high self.now.depth).ty tokens.old) result tokens.new }

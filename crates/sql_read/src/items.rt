@@ -8,6 +8,7 @@ ghost use Rattle.sql_read.specs.Nests.{Nests};
 
 use crate::grammar::Grammar;
 use crate::part::{Open, Part};
+use ev_value::Boxed;
 use exact::ReadError;
 use sql_build::{
     added_column, first_column, holding, lateral_item, left_item, named_column, table_item,
@@ -31,7 +32,7 @@ impl<F: Fn(Global, &mut Cursor<'_>, usize, Open) -> Result<Part, ReadError>> Gra
 
     /// A column.
     #[tactic(auto, unfolding(sql_grammar::specs::Readers::column_of))]
-    fn column_of(&self, tokens: &mut Cursor<'_>) -> Result<GrownColumn, ReadError>
+    fn column_of(&self, tokens: &mut Cursor<'_>) -> Result<Boxed<GrownColumn>, ReadError>
         requires { Nests self.now.depth (F.pre self.now.inner) (F.post self.now.inner) }
         ensures { Reads (spec.column_of self.now.depth too_high (spec.inside too_high self.now.depth) tokens.old) result tokens.new }
     {
@@ -58,8 +59,8 @@ impl<F: Fn(Global, &mut Cursor<'_>, usize, Open) -> Result<Part, ReadError>> Gra
     fn further_columns(
         &self,
         tokens: &mut Cursor<'_>,
-        first: GrownCore,
-    ) -> Result<GrownCore, ReadError>
+        first: Boxed<GrownCore>,
+    ) -> Result<Boxed<GrownCore>, ReadError>
         requires { Nests self.now.depth (F.pre self.now.inner) (F.post self.now.inner) }
         ensures { Reads (spec.further (spec.column_of self.now.depth too_high (spec.inside too_high self.now.depth)) t.added_column first tokens.old) result tokens.new }
     {
@@ -70,14 +71,14 @@ impl<F: Fn(Global, &mut Cursor<'_>, usize, Open) -> Result<Part, ReadError>> Gra
             }
             holding!(all, tokens.expect(false, Sign::Comma));
             let x = holding!(all, self.column_of(tokens));
-            all = added_column(all, x)?;
+            all = added_column(self.alloc, all, x)?;
         }
         Ok(all)
     }
 
     /// `SELECT` and the columns.
     #[tactic(auto, unfolding(sql_grammar::specs::Readers::columns))]
-    pub fn columns(&self, tokens: &mut Cursor<'_>) -> Result<GrownCore, ReadError>
+    pub fn columns(&self, tokens: &mut Cursor<'_>) -> Result<Boxed<GrownCore>, ReadError>
         requires { Nests self.now.depth (F.pre self.now.inner) (F.post self.now.inner) }
         ensures { Reads (spec.columns self.now.depth too_high (spec.inside too_high self.now.depth) tokens.old) result tokens.new }
     {
@@ -89,7 +90,7 @@ impl<F: Fn(Global, &mut Cursor<'_>, usize, Open) -> Result<Part, ReadError>> Gra
 
     /// A table.
     #[tactic(auto, unfolding(sql_grammar::specs::Readers::item_of_table))]
-    fn item_of_table(&self, tokens: &mut Cursor<'_>) -> Result<GrownItem, ReadError>
+    fn item_of_table(&self, tokens: &mut Cursor<'_>) -> Result<Boxed<GrownItem>, ReadError>
         requires { Nests self.now.depth (F.pre self.now.inner) (F.post self.now.inner) }
         ensures { Reads (spec.item_of_table self.now.depth too_high (spec.inside too_high self.now.depth) tokens.old) result tokens.new }
     {
@@ -100,7 +101,7 @@ impl<F: Fn(Global, &mut Cursor<'_>, usize, Open) -> Result<Part, ReadError>> Gra
 
     /// A lateral select.
     #[tactic(auto, unfolding(sql_grammar::specs::Readers::item_of_lateral))]
-    fn item_of_lateral(&self, tokens: &mut Cursor<'_>) -> Result<GrownItem, ReadError>
+    fn item_of_lateral(&self, tokens: &mut Cursor<'_>) -> Result<Boxed<GrownItem>, ReadError>
         requires { Nests self.now.depth (F.pre self.now.inner) (F.post self.now.inner) }
         ensures { Reads (spec.item_of_lateral self.now.depth too_high (spec.inside too_high self.now.depth) tokens.old) result tokens.new }
     {
@@ -112,7 +113,7 @@ impl<F: Fn(Global, &mut Cursor<'_>, usize, Open) -> Result<Part, ReadError>> Gra
 
     /// The elements of an array.
     #[tactic(auto, unfolding(sql_grammar::specs::Readers::item_of_unnest))]
-    fn item_of_unnest(&self, tokens: &mut Cursor<'_>) -> Result<GrownItem, ReadError>
+    fn item_of_unnest(&self, tokens: &mut Cursor<'_>) -> Result<Boxed<GrownItem>, ReadError>
         requires { Nests self.now.depth (F.pre self.now.inner) (F.post self.now.inner) }
         ensures { Reads (spec.item_of_unnest self.now.depth too_high (spec.inside too_high self.now.depth) tokens.old) result tokens.new }
     {
@@ -124,7 +125,7 @@ impl<F: Fn(Global, &mut Cursor<'_>, usize, Open) -> Result<Part, ReadError>> Gra
 
     /// An item.
     #[tactic(auto, unfolding(sql_grammar::specs::Readers::item))]
-    fn item(&self, tokens: &mut Cursor<'_>) -> Result<GrownItem, ReadError>
+    fn item(&self, tokens: &mut Cursor<'_>) -> Result<Boxed<GrownItem>, ReadError>
         requires { Nests self.now.depth (F.pre self.now.inner) (F.post self.now.inner) }
         ensures { Reads (spec.item self.now.depth too_high (spec.inside too_high self.now.depth) tokens.old) result tokens.new }
     {
@@ -139,7 +140,7 @@ impl<F: Fn(Global, &mut Cursor<'_>, usize, Open) -> Result<Part, ReadError>> Gra
 
     /// An outer join.
     #[tactic(auto, unfolding(sql_grammar::specs::Readers::item_of_left))]
-    fn item_of_left(&self, tokens: &mut Cursor<'_>) -> Result<GrownItem, ReadError>
+    fn item_of_left(&self, tokens: &mut Cursor<'_>) -> Result<Boxed<GrownItem>, ReadError>
         requires { Nests self.now.depth (F.pre self.now.inner) (F.post self.now.inner) }
         ensures { Reads (spec.item_of_left self.now.depth too_high (spec.inside too_high self.now.depth) tokens.old) result tokens.new }
     {
@@ -155,7 +156,7 @@ impl<F: Fn(Global, &mut Cursor<'_>, usize, Open) -> Result<Part, ReadError>> Gra
 
     /// A further item.
     #[tactic(auto, unfolding(sql_grammar::specs::Readers::further_item))]
-    fn further_item(&self, tokens: &mut Cursor<'_>) -> Result<GrownItem, ReadError>
+    fn further_item(&self, tokens: &mut Cursor<'_>) -> Result<Boxed<GrownItem>, ReadError>
         requires { Nests self.now.depth (F.pre self.now.inner) (F.post self.now.inner) }
         ensures { Reads (spec.further_item self.now.depth too_high (spec.inside too_high self.now.depth) tokens.old) result tokens.new }
     {
@@ -171,8 +172,8 @@ impl<F: Fn(Global, &mut Cursor<'_>, usize, Open) -> Result<Part, ReadError>> Gra
     fn further_items(
         &self,
         tokens: &mut Cursor<'_>,
-        first: GrownCore,
-    ) -> Result<GrownCore, ReadError>
+        first: Boxed<GrownCore>,
+    ) -> Result<Boxed<GrownCore>, ReadError>
         requires { Nests self.now.depth (F.pre self.now.inner) (F.post self.now.inner) }
         ensures { Reads (spec.further_items self.now.depth too_high (spec.inside too_high self.now.depth) first tokens.old) result tokens.new }
     {
@@ -182,14 +183,18 @@ impl<F: Fn(Global, &mut Cursor<'_>, usize, Open) -> Result<Part, ReadError>> Gra
                 return Ok(all);
             }
             let x = holding!(all, self.further_item(tokens));
-            all = with_item(all, x)?;
+            all = with_item(self.alloc, all, x)?;
         }
         Ok(all)
     }
 
     /// `FROM` and its items, if they stand here.
     #[tactic(auto, unfolding(sql_grammar::specs::Readers::from_items))]
-    pub fn from_items(&self, tokens: &mut Cursor<'_>, g: GrownCore) -> Result<GrownCore, ReadError>
+    pub fn from_items(
+        &self,
+        tokens: &mut Cursor<'_>,
+        g: Boxed<GrownCore>,
+    ) -> Result<Boxed<GrownCore>, ReadError>
         requires { Nests self.now.depth (F.pre self.now.inner) (F.post self.now.inner) }
         ensures { Reads (spec.from_items self.now.depth too_high (spec.inside too_high self.now.depth) g tokens.old) result tokens.new }
     {
@@ -198,6 +203,6 @@ impl<F: Fn(Global, &mut Cursor<'_>, usize, Open) -> Result<Part, ReadError>> Gra
         }
         holding!(g, tokens.expect_word(false, Keyword::From));
         let first = holding!(g, self.item(tokens));
-        self.further_items(tokens, with_item(g, first)?)
+        self.further_items(tokens, with_item(self.alloc, g, first)?)
     }
 }

@@ -8,6 +8,7 @@ ghost use Rattle.sql_read.specs.Nests.{Nests};
 
 use crate::grammar::Grammar;
 use crate::part::{Level, Open, Part};
+use ev_value::Boxed;
 use exact::ReadError;
 use sql_ast::UnaryOp;
 use sql_build::{holding, null_test, operated, prefixed, too_high};
@@ -19,7 +20,7 @@ use std::alloc::Global;
 impl<F: Fn(Global, &mut Cursor<'_>, usize, Open) -> Result<Part, ReadError>> Grammar<F> {
     /// What binds as tightly as a minus.
     #[tactic(auto, unfolding(sql_grammar::specs::Readers::unary_of))]
-    pub fn unary_of(&self, tokens: &mut Cursor<'_>) -> Result<Grown, ReadError>
+    pub fn unary_of(&self, tokens: &mut Cursor<'_>) -> Result<Boxed<Grown>, ReadError>
         requires { Nests self.now.depth (F.pre self.now.inner) (F.post self.now.inner) }
         ensures { Reads (spec.unary_of self.now.depth too_high (spec.inside too_high self.now.depth) tokens.old) result tokens.new }
     {
@@ -33,7 +34,11 @@ impl<F: Fn(Global, &mut Cursor<'_>, usize, Open) -> Result<Part, ReadError>> Gra
 
     /// Further operands of `*`, `//` and `%`.
     #[tactic(auto, using(exact::proofs::Turns::chain_stays, exact::proofs::Turns::chain_over, exact::proofs::Turns::chain_turn))]
-    fn products(&self, tokens: &mut Cursor<'_>, first: Grown) -> Result<Grown, ReadError>
+    fn products(
+        &self,
+        tokens: &mut Cursor<'_>,
+        first: Boxed<Grown>,
+    ) -> Result<Boxed<Grown>, ReadError>
         requires { Nests self.now.depth (F.pre self.now.inner) (F.post self.now.inner) }
         ensures { Reads (spec.operations self.now.depth too_high (spec.inside too_high self.now.depth) 6 (spec.unary_of self.now.depth too_high (spec.inside too_high self.now.depth)) first tokens.old) result tokens.new }
     {
@@ -42,7 +47,7 @@ impl<F: Fn(Global, &mut Cursor<'_>, usize, Open) -> Result<Part, ReadError>> Gra
             if !tokens.sees_operator(6) {
                 return Ok(all);
             }
-            let found = holding!(all, tokens.operator(too_high(all.height), 6));
+            let found = holding!(all, tokens.operator(too_high(all.get().height), 6));
             let right = holding!(all, self.unary_of(tokens));
             all = operated(self.alloc, found, all, right)?;
         }
@@ -51,7 +56,7 @@ impl<F: Fn(Global, &mut Cursor<'_>, usize, Open) -> Result<Part, ReadError>> Gra
 
     /// Operands of `*`, `//` and `%`.
     #[tactic(auto, unfolding(sql_grammar::specs::Readers::product, sql_grammar::specs::Readers::operators))]
-    fn product(&self, tokens: &mut Cursor<'_>) -> Result<Grown, ReadError>
+    fn product(&self, tokens: &mut Cursor<'_>) -> Result<Boxed<Grown>, ReadError>
         requires { Nests self.now.depth (F.pre self.now.inner) (F.post self.now.inner) }
         ensures { Reads (spec.product self.now.depth too_high (spec.inside too_high self.now.depth) tokens.old) result tokens.new }
     {
@@ -61,7 +66,7 @@ impl<F: Fn(Global, &mut Cursor<'_>, usize, Open) -> Result<Part, ReadError>> Gra
 
     /// Further operands of `+`, `-` and `||`.
     #[tactic(auto, using(exact::proofs::Turns::chain_stays, exact::proofs::Turns::chain_over, exact::proofs::Turns::chain_turn))]
-    fn sums(&self, tokens: &mut Cursor<'_>, first: Grown) -> Result<Grown, ReadError>
+    fn sums(&self, tokens: &mut Cursor<'_>, first: Boxed<Grown>) -> Result<Boxed<Grown>, ReadError>
         requires { Nests self.now.depth (F.pre self.now.inner) (F.post self.now.inner) }
         ensures { Reads (spec.operations self.now.depth too_high (spec.inside too_high self.now.depth) 5 (spec.product self.now.depth too_high (spec.inside too_high self.now.depth)) first tokens.old) result tokens.new }
     {
@@ -70,7 +75,7 @@ impl<F: Fn(Global, &mut Cursor<'_>, usize, Open) -> Result<Part, ReadError>> Gra
             if !tokens.sees_operator(5) {
                 return Ok(all);
             }
-            let found = holding!(all, tokens.operator(too_high(all.height), 5));
+            let found = holding!(all, tokens.operator(too_high(all.get().height), 5));
             let right = holding!(all, self.product(tokens));
             all = operated(self.alloc, found, all, right)?;
         }
@@ -79,7 +84,7 @@ impl<F: Fn(Global, &mut Cursor<'_>, usize, Open) -> Result<Part, ReadError>> Gra
 
     /// Operands of `+`, `-` and `||`.
     #[tactic(auto, unfolding(sql_grammar::specs::Readers::sum, sql_grammar::specs::Readers::operators))]
-    fn sum(&self, tokens: &mut Cursor<'_>) -> Result<Grown, ReadError>
+    fn sum(&self, tokens: &mut Cursor<'_>) -> Result<Boxed<Grown>, ReadError>
         requires { Nests self.now.depth (F.pre self.now.inner) (F.post self.now.inner) }
         ensures { Reads (spec.sum self.now.depth too_high (spec.inside too_high self.now.depth) tokens.old) result tokens.new }
     {
@@ -103,7 +108,11 @@ impl<F: Fn(Global, &mut Cursor<'_>, usize, Open) -> Result<Part, ReadError>> Gra
     /// `IS NULL` or `IS NOT NULL` behind its operand.
     #[inline(never)]
     #[tactic(auto, unfolding(sql_grammar::specs::Readers::null_test_of))]
-    fn null_test_of(&self, tokens: &mut Cursor<'_>, x: Grown) -> Result<Grown, ReadError>
+    fn null_test_of(
+        &self,
+        tokens: &mut Cursor<'_>,
+        x: Boxed<Grown>,
+    ) -> Result<Boxed<Grown>, ReadError>
         requires { Nests self.now.depth (F.pre self.now.inner) (F.post self.now.inner) }
         ensures { Reads (spec.null_test_of self.now.depth too_high (spec.inside too_high self.now.depth) x tokens.old) result tokens.new }
     {
@@ -115,7 +124,7 @@ impl<F: Fn(Global, &mut Cursor<'_>, usize, Open) -> Result<Part, ReadError>> Gra
 
     /// At most one comparison.
     #[tactic(auto, unfolding(sql_grammar::specs::Readers::comparison))]
-    fn comparison(&self, tokens: &mut Cursor<'_>) -> Result<Grown, ReadError>
+    fn comparison(&self, tokens: &mut Cursor<'_>) -> Result<Boxed<Grown>, ReadError>
         requires { Nests self.now.depth (F.pre self.now.inner) (F.post self.now.inner) }
         ensures { Reads (spec.comparison self.now.depth too_high (spec.inside too_high self.now.depth) tokens.old) result tokens.new }
     {
@@ -133,7 +142,7 @@ impl<F: Fn(Global, &mut Cursor<'_>, usize, Open) -> Result<Part, ReadError>> Gra
 
     /// What binds tighter than `AND`.
     #[tactic(auto, unfolding(sql_grammar::specs::Readers::negation))]
-    pub fn negation(&self, tokens: &mut Cursor<'_>) -> Result<Grown, ReadError>
+    pub fn negation(&self, tokens: &mut Cursor<'_>) -> Result<Boxed<Grown>, ReadError>
         requires { Nests self.now.depth (F.pre self.now.inner) (F.post self.now.inner) }
         ensures { Reads (spec.negation self.now.depth too_high (spec.inside too_high self.now.depth) tokens.old) result tokens.new }
     {
@@ -147,7 +156,11 @@ impl<F: Fn(Global, &mut Cursor<'_>, usize, Open) -> Result<Part, ReadError>> Gra
 
     /// Further operands of `AND`.
     #[tactic(auto, using(exact::proofs::Turns::chain_stays, exact::proofs::Turns::chain_over, exact::proofs::Turns::chain_turn))]
-    fn conjunctions(&self, tokens: &mut Cursor<'_>, first: Grown) -> Result<Grown, ReadError>
+    fn conjunctions(
+        &self,
+        tokens: &mut Cursor<'_>,
+        first: Boxed<Grown>,
+    ) -> Result<Boxed<Grown>, ReadError>
         requires { Nests self.now.depth (F.pre self.now.inner) (F.post self.now.inner) }
         ensures { Reads (spec.operations self.now.depth too_high (spec.inside too_high self.now.depth) 2 (spec.negation self.now.depth too_high (spec.inside too_high self.now.depth)) first tokens.old) result tokens.new }
     {
@@ -156,7 +169,7 @@ impl<F: Fn(Global, &mut Cursor<'_>, usize, Open) -> Result<Part, ReadError>> Gra
             if !tokens.sees_operator(2) {
                 return Ok(all);
             }
-            let found = holding!(all, tokens.operator(too_high(all.height), 2));
+            let found = holding!(all, tokens.operator(too_high(all.get().height), 2));
             let right = holding!(all, self.negation(tokens));
             all = operated(self.alloc, found, all, right)?;
         }
@@ -165,7 +178,7 @@ impl<F: Fn(Global, &mut Cursor<'_>, usize, Open) -> Result<Part, ReadError>> Gra
 
     /// Operands of `AND`.
     #[tactic(auto, unfolding(sql_grammar::specs::Readers::conjunction, sql_grammar::specs::Readers::operators))]
-    fn conjunction(&self, tokens: &mut Cursor<'_>) -> Result<Grown, ReadError>
+    fn conjunction(&self, tokens: &mut Cursor<'_>) -> Result<Boxed<Grown>, ReadError>
         requires { Nests self.now.depth (F.pre self.now.inner) (F.post self.now.inner) }
         ensures { Reads (spec.conjunction self.now.depth too_high (spec.inside too_high self.now.depth) tokens.old) result tokens.new }
     {
@@ -175,7 +188,11 @@ impl<F: Fn(Global, &mut Cursor<'_>, usize, Open) -> Result<Part, ReadError>> Gra
 
     /// Further operands of `OR`.
     #[tactic(auto, using(exact::proofs::Turns::chain_stays, exact::proofs::Turns::chain_over, exact::proofs::Turns::chain_turn))]
-    fn disjunctions(&self, tokens: &mut Cursor<'_>, first: Grown) -> Result<Grown, ReadError>
+    fn disjunctions(
+        &self,
+        tokens: &mut Cursor<'_>,
+        first: Boxed<Grown>,
+    ) -> Result<Boxed<Grown>, ReadError>
         requires { Nests self.now.depth (F.pre self.now.inner) (F.post self.now.inner) }
         ensures { Reads (spec.operations self.now.depth too_high (spec.inside too_high self.now.depth) 1 (spec.conjunction self.now.depth too_high (spec.inside too_high self.now.depth)) first tokens.old) result tokens.new }
     {
@@ -184,7 +201,7 @@ impl<F: Fn(Global, &mut Cursor<'_>, usize, Open) -> Result<Part, ReadError>> Gra
             if !tokens.sees_operator(1) {
                 return Ok(all);
             }
-            let found = holding!(all, tokens.operator(too_high(all.height), 1));
+            let found = holding!(all, tokens.operator(too_high(all.get().height), 1));
             let right = holding!(all, self.conjunction(tokens));
             all = operated(self.alloc, found, all, right)?;
         }
@@ -193,7 +210,7 @@ impl<F: Fn(Global, &mut Cursor<'_>, usize, Open) -> Result<Part, ReadError>> Gra
 
     /// Operands of `OR`.
     #[tactic(auto, unfolding(sql_grammar::specs::Readers::expr, sql_grammar::specs::Readers::operators))]
-    pub fn expr(&self, tokens: &mut Cursor<'_>) -> Result<Grown, ReadError>
+    pub fn expr(&self, tokens: &mut Cursor<'_>) -> Result<Boxed<Grown>, ReadError>
         requires { Nests self.now.depth (F.pre self.now.inner) (F.post self.now.inner) }
         ensures { Reads (spec.expr self.now.depth too_high (spec.inside too_high self.now.depth) tokens.old) result tokens.new }
     {

@@ -1,5 +1,6 @@
 //! What may stand in an open part.
 
+use ev_value::Boxed;
 use sql_grammar::{Grown, GrownSelect, GrownTy};
 
 /// Where an expression stands that is read in an open part.
@@ -24,7 +25,7 @@ pub enum Open {
 /// What was read in an open part.
 #[derive(Drop)]
 pub enum Part {
-    Expr(Grown),
-    Select(GrownSelect),
-    Ty(GrownTy),
+    Expr(Boxed<Grown>),
+    Select(Boxed<GrownSelect>),
+    Ty(Boxed<GrownTy>),
 }

@@ -9,6 +9,7 @@ ghost use Rattle.sql_read.specs.Parts.{ReadsPart, level_of};
 
 use crate::grammar::Grammar;
 use crate::part::{Level, Open, Part};
+use ev_value::Boxed;
 use exact::{ReadError, Rule};
 use sql_build::{discard, holding, too_high};
 use sql_cursor::Cursor;
@@ -17,7 +18,7 @@ use sql_lex::Sign;
 use std::alloc::Global;
 
 impl<F: Fn(Global, &mut Cursor<'_>, usize, Open) -> Result<Part, ReadError>> Grammar<F> {
-    fn level(&self, tokens: &mut Cursor<'_>, level: Level) -> Result<Grown, ReadError>
+    fn level(&self, tokens: &mut Cursor<'_>, level: Level) -> Result<Boxed<Grown>, ReadError>
         requires { Nests self.now.depth (F.pre self.now.inner) (F.post self.now.inner) }
         ensures { Reads (level_of level (spec.levels self.now.depth too_high (spec.inside too_high self.now.depth)) tokens.old) result tokens.new }
     {
@@ -57,7 +58,7 @@ pub fn read(
     .part(tokens, part)
 }
 
-fn select(alloc: Global, tokens: &mut Cursor<'_>) -> Result<GrownSelect, ReadError>
+fn select(alloc: Global, tokens: &mut Cursor<'_>) -> Result<Boxed<GrownSelect>, ReadError>
     ensures { Reads ((spec.within too_high MAX_OPEN).select tokens.old) result tokens.new }
 {
     match read(alloc, tokens, MAX_OPEN, Open::Select)? {
@@ -67,7 +68,7 @@ fn select(alloc: Global, tokens: &mut Cursor<'_>) -> Result<GrownSelect, ReadErr
 }
 
 #[tactic(auto, unfolding(sql_grammar::specs::Readers::statement))]
-fn statement(alloc: Global, tokens: &mut Cursor<'_>) -> Result<GrownSelect, ReadError>
+fn statement(alloc: Global, tokens: &mut Cursor<'_>) -> Result<Boxed<GrownSelect>, ReadError>
     ensures { Reads (spec.statement (spec.within too_high MAX_OPEN) tokens.old) result tokens.new }
 {
     let s = select(alloc, tokens)?;
@@ -79,7 +80,10 @@ fn statement(alloc: Global, tokens: &mut Cursor<'_>) -> Result<GrownSelect, Read
 }
 
 /// Reads a statement, which all of the tokens are.
-pub fn whole_statement(alloc: Global, tokens: &mut Cursor<'_>) -> Result<GrownSelect, ReadError>
+pub fn whole_statement(
+    alloc: Global,
+    tokens: &mut Cursor<'_>,
+) -> Result<Boxed<GrownSelect>, ReadError>
     ensures { Reads (whole is_tall (spec.statement (spec.within too_high MAX_OPEN)) tokens.old) result tokens.new }
 {
     let found = statement(alloc, tokens)?;
@@ -87,7 +91,7 @@ pub fn whole_statement(alloc: Global, tokens: &mut Cursor<'_>) -> Result<GrownSe
         discard(found);
         return Err(ReadError::Refused(Rule::Unexpected));
     }
-    if too_high(found.height) {
+    if too_high(found.get().height) {
         discard(found);
         return Err(ReadError::Refused(Rule::TooDeep));
     }

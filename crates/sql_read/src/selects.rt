@@ -8,6 +8,7 @@ ghost use Rattle.sql_read.specs.Nests.{Nests};
 
 use crate::grammar::Grammar;
 use crate::part::{Open, Part};
+use ev_value::Boxed;
 use exact::ReadError;
 use sql_build::{
     added_core, first_core, holding, key_of, select_of, with_condition, with_key, with_limit,
@@ -21,7 +22,11 @@ use std::alloc::Global;
 impl<F: Fn(Global, &mut Cursor<'_>, usize, Open) -> Result<Part, ReadError>> Grammar<F> {
     /// `WHERE`, if it stands here.
     #[tactic(auto, unfolding(sql_grammar::specs::Readers::where_clause))]
-    fn where_clause(&self, tokens: &mut Cursor<'_>, g: GrownCore) -> Result<GrownCore, ReadError>
+    fn where_clause(
+        &self,
+        tokens: &mut Cursor<'_>,
+        g: Boxed<GrownCore>,
+    ) -> Result<Boxed<GrownCore>, ReadError>
         requires { Nests self.now.depth (F.pre self.now.inner) (F.post self.now.inner) }
         ensures { Reads (spec.where_clause self.now.depth too_high (spec.inside too_high self.now.depth) g tokens.old) result tokens.new }
     {
@@ -35,7 +40,7 @@ impl<F: Fn(Global, &mut Cursor<'_>, usize, Open) -> Result<Part, ReadError>> Gra
 
     /// A key of an order.
     #[tactic(auto, unfolding(sql_grammar::specs::Readers::key))]
-    fn key(&self, tokens: &mut Cursor<'_>) -> Result<GrownKey, ReadError>
+    fn key(&self, tokens: &mut Cursor<'_>) -> Result<Boxed<GrownKey>, ReadError>
         requires { Nests self.now.depth (F.pre self.now.inner) (F.post self.now.inner) }
         ensures { Reads (spec.key self.now.depth too_high (spec.inside too_high self.now.depth) tokens.old) result tokens.new }
     {
@@ -43,7 +48,7 @@ impl<F: Fn(Global, &mut Cursor<'_>, usize, Open) -> Result<Part, ReadError>> Gra
         let way = holding!(x, tokens.direction());
         holding!(x, tokens.expect_word(false, Keyword::Nulls));
         let nulls = holding!(x, tokens.absent());
-        Ok(key_of(x, way, nulls))
+        Ok(key_of(self.alloc, x, way, nulls)?)
     }
 
     /// Further keys, each behind a comma.
@@ -51,8 +56,8 @@ impl<F: Fn(Global, &mut Cursor<'_>, usize, Open) -> Result<Part, ReadError>> Gra
     fn further_keys(
         &self,
         tokens: &mut Cursor<'_>,
-        first: GrownCore,
-    ) -> Result<GrownCore, ReadError>
+        first: Boxed<GrownCore>,
+    ) -> Result<Boxed<GrownCore>, ReadError>
         requires { Nests self.now.depth (F.pre self.now.inner) (F.post self.now.inner) }
         ensures { Reads (spec.further (spec.key self.now.depth too_high (spec.inside too_high self.now.depth)) t.with_key first tokens.old) result tokens.new }
     {
@@ -63,14 +68,18 @@ impl<F: Fn(Global, &mut Cursor<'_>, usize, Open) -> Result<Part, ReadError>> Gra
             }
             holding!(all, tokens.expect(false, Sign::Comma));
             let x = holding!(all, self.key(tokens));
-            all = with_key(all, x)?;
+            all = with_key(self.alloc, all, x)?;
         }
         Ok(all)
     }
 
     /// `ORDER BY` and its keys, if they stand here.
     #[tactic(auto, unfolding(sql_grammar::specs::Readers::order))]
-    fn order(&self, tokens: &mut Cursor<'_>, g: GrownCore) -> Result<GrownCore, ReadError>
+    fn order(
+        &self,
+        tokens: &mut Cursor<'_>,
+        g: Boxed<GrownCore>,
+    ) -> Result<Boxed<GrownCore>, ReadError>
         requires { Nests self.now.depth (F.pre self.now.inner) (F.post self.now.inner) }
         ensures { Reads (spec.order self.now.depth too_high (spec.inside too_high self.now.depth) g tokens.old) result tokens.new }
     {
@@ -80,12 +89,16 @@ impl<F: Fn(Global, &mut Cursor<'_>, usize, Open) -> Result<Part, ReadError>> Gra
         holding!(g, tokens.expect_word(false, Keyword::Order));
         holding!(g, tokens.expect_word(false, Keyword::By));
         let first = holding!(g, self.key(tokens));
-        self.further_keys(tokens, with_key(g, first)?)
+        self.further_keys(tokens, with_key(self.alloc, g, first)?)
     }
 
     /// `OFFSET`, if it stands here.
     #[tactic(auto, unfolding(sql_grammar::specs::Readers::offset))]
-    fn offset(&self, tokens: &mut Cursor<'_>, g: GrownCore) -> Result<GrownCore, ReadError>
+    fn offset(
+        &self,
+        tokens: &mut Cursor<'_>,
+        g: Boxed<GrownCore>,
+    ) -> Result<Boxed<GrownCore>, ReadError>
         requires { Nests self.now.depth (F.pre self.now.inner) (F.post self.now.inner) }
         ensures { Reads (spec.offset self.now.depth too_high (spec.inside too_high self.now.depth) g tokens.old) result tokens.new }
     {
@@ -99,7 +112,11 @@ impl<F: Fn(Global, &mut Cursor<'_>, usize, Open) -> Result<Part, ReadError>> Gra
 
     /// `LIMIT`, if it stands here.
     #[tactic(auto, unfolding(sql_grammar::specs::Readers::limit))]
-    fn limit(&self, tokens: &mut Cursor<'_>, g: GrownCore) -> Result<GrownCore, ReadError>
+    fn limit(
+        &self,
+        tokens: &mut Cursor<'_>,
+        g: Boxed<GrownCore>,
+    ) -> Result<Boxed<GrownCore>, ReadError>
         requires { Nests self.now.depth (F.pre self.now.inner) (F.post self.now.inner) }
         ensures { Reads (spec.limit self.now.depth too_high (spec.inside too_high self.now.depth) g tokens.old) result tokens.new }
     {
@@ -113,7 +130,7 @@ impl<F: Fn(Global, &mut Cursor<'_>, usize, Open) -> Result<Part, ReadError>> Gra
 
     /// A core.
     #[tactic(auto, unfolding(sql_grammar::specs::Readers::core_of))]
-    fn core_of(&self, tokens: &mut Cursor<'_>) -> Result<GrownCore, ReadError>
+    fn core_of(&self, tokens: &mut Cursor<'_>) -> Result<Boxed<GrownCore>, ReadError>
         requires { Nests self.now.depth (F.pre self.now.inner) (F.post self.now.inner) }
         ensures { Reads (spec.core_of self.now.depth too_high (spec.inside too_high self.now.depth) tokens.old) result tokens.new }
     {
@@ -127,7 +144,7 @@ impl<F: Fn(Global, &mut Cursor<'_>, usize, Open) -> Result<Part, ReadError>> Gra
 
     /// A core behind `UNION ALL`.
     #[tactic(auto, unfolding(sql_grammar::specs::Readers::further_core))]
-    fn further_core(&self, tokens: &mut Cursor<'_>) -> Result<GrownCore, ReadError>
+    fn further_core(&self, tokens: &mut Cursor<'_>) -> Result<Boxed<GrownCore>, ReadError>
         requires { Nests self.now.depth (F.pre self.now.inner) (F.post self.now.inner) }
         ensures { Reads (spec.further_core self.now.depth too_high (spec.inside too_high self.now.depth) tokens.old) result tokens.new }
     {
@@ -138,7 +155,11 @@ impl<F: Fn(Global, &mut Cursor<'_>, usize, Open) -> Result<Part, ReadError>> Gra
 
     /// All further cores.
     #[tactic(auto, using(exact::proofs::Turns::chain_stays, exact::proofs::Turns::chain_over, exact::proofs::Turns::chain_turn))]
-    fn further_cores(&self, tokens: &mut Cursor<'_>, first: Cores) -> Result<Cores, ReadError>
+    fn further_cores(
+        &self,
+        tokens: &mut Cursor<'_>,
+        first: Boxed<Cores>,
+    ) -> Result<Boxed<Cores>, ReadError>
         requires { Nests self.now.depth (F.pre self.now.inner) (F.post self.now.inner) }
         ensures { Reads (spec.further_cores self.now.depth too_high (spec.inside too_high self.now.depth) first tokens.old) result tokens.new }
     {
@@ -148,14 +169,14 @@ impl<F: Fn(Global, &mut Cursor<'_>, usize, Open) -> Result<Part, ReadError>> Gra
                 return Ok(all);
             }
             let g = holding!(all, self.further_core(tokens));
-            all = added_core(all, g)?;
+            all = added_core(self.alloc, all, g)?;
         }
         Ok(all)
     }
 
     /// Cores with `UNION ALL` between them.
     #[tactic(auto, unfolding(sql_grammar::specs::Readers::cores_of))]
-    fn cores_of(&self, tokens: &mut Cursor<'_>) -> Result<Cores, ReadError>
+    fn cores_of(&self, tokens: &mut Cursor<'_>) -> Result<Boxed<Cores>, ReadError>
         requires { Nests self.now.depth (F.pre self.now.inner) (F.post self.now.inner) }
         ensures { Reads (spec.cores_of self.now.depth too_high (spec.inside too_high self.now.depth) tokens.old) result tokens.new }
     {
@@ -166,11 +187,11 @@ impl<F: Fn(Global, &mut Cursor<'_>, usize, Open) -> Result<Part, ReadError>> Gra
     /// A select.
     #[inline(never)]
     #[tactic(auto, unfolding(sql_grammar::specs::Readers::sel))]
-    pub fn sel(&self, tokens: &mut Cursor<'_>) -> Result<GrownSelect, ReadError>
+    pub fn sel(&self, tokens: &mut Cursor<'_>) -> Result<Boxed<GrownSelect>, ReadError>
         requires { Nests self.now.depth (F.pre self.now.inner) (F.post self.now.inner) }
         ensures { Reads (spec.sel self.now.depth too_high (spec.inside too_high self.now.depth) tokens.old) result tokens.new }
     {
         let all = self.cores_of(tokens)?;
-        Ok(select_of(all))
+        Ok(select_of(self.alloc, all)?)
     }
 }

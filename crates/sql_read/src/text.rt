@@ -29,7 +29,7 @@ fn read_tokens(alloc: Global, tokens: &[Token]) -> Result<GrownSelect, TextRefus
 {
     let mut cursor = Cursor::new(tokens);
     match whole_statement(alloc, &mut cursor) {
-        Ok(found) => Ok(found),
+        Ok(found) => Ok(found.into_inner()),
         Err(ReadError::Memory) => Err(TextRefusal::Memory),
         Err(ReadError::Refused(_)) => Err(TextRefusal::Q1),
     }

@@ -8,6 +8,7 @@ ghost use Rattle.sql_read.specs.Nests.{Nests};
 
 use crate::grammar::Grammar;
 use crate::part::{Level, Open, Part};
+use ev_value::Boxed;
 use exact::ReadError;
 use sql_build::{added_type, array_ty, first_type, grouped, holding, no_types, row_ty, scalar_ty};
 use sql_cursor::Cursor;
@@ -18,7 +19,7 @@ use std::alloc::Global;
 impl<F: Fn(Global, &mut Cursor<'_>, usize, Open) -> Result<Part, ReadError>> Grammar<F> {
     /// A select in parentheses.
     #[tactic(auto, unfolding(sql_grammar::specs::Readers::sub, sql_grammar::specs::Readers::opening))]
-    pub fn sub(&self, tokens: &mut Cursor<'_>) -> Result<GrownSelect, ReadError>
+    pub fn sub(&self, tokens: &mut Cursor<'_>) -> Result<Boxed<GrownSelect>, ReadError>
         requires { Nests self.now.depth (F.pre self.now.inner) (F.post self.now.inner) }
         ensures { Reads (spec.sub self.now.depth too_high (spec.inside too_high self.now.depth) tokens.old) result tokens.new }
     {
@@ -30,14 +31,14 @@ impl<F: Fn(Global, &mut Cursor<'_>, usize, Open) -> Result<Part, ReadError>> Gra
 
     /// An expression in parentheses.
     #[tactic(auto, unfolding(sql_grammar::specs::Readers::within_parens, sql_grammar::specs::Readers::opening))]
-    pub fn within_parens(&self, tokens: &mut Cursor<'_>) -> Result<Grown, ReadError>
+    pub fn within_parens(&self, tokens: &mut Cursor<'_>) -> Result<Boxed<Grown>, ReadError>
         requires { Nests self.now.depth (F.pre self.now.inner) (F.post self.now.inner) }
         ensures { Reads (spec.within_parens self.now.depth too_high (spec.inside too_high self.now.depth) tokens.old) result tokens.new }
     {
         let start = tokens.expect(self.depth == 0, Sign::LeftParen)?;
         let x = self.open_expr(tokens, Level::Expr)?;
         holding!(x, tokens.expect(false, Sign::RightParen));
-        Ok(grouped(start, x))
+        Ok(grouped(self.alloc, start, x)?)
     }
 
     /// Further types, each behind a comma.
@@ -78,7 +79,7 @@ impl<F: Fn(Global, &mut Cursor<'_>, usize, Open) -> Result<Part, ReadError>> Gra
 
     /// The type of an array.
     #[tactic(auto, unfolding(sql_grammar::specs::Readers::array_of_ty, sql_grammar::specs::Readers::opening))]
-    fn array_of_ty(&self, tokens: &mut Cursor<'_>) -> Result<GrownTy, ReadError>
+    fn array_of_ty(&self, tokens: &mut Cursor<'_>) -> Result<Boxed<GrownTy>, ReadError>
         requires { Nests self.now.depth (F.pre self.now.inner) (F.post self.now.inner) }
         ensures { Reads (spec.array_of_ty self.now.depth too_high (spec.inside too_high self.now.depth) tokens.old) result tokens.new }
     {
@@ -92,16 +93,18 @@ impl<F: Fn(Global, &mut Cursor<'_>, usize, Open) -> Result<Part, ReadError>> Gra
     /// A type.
     #[inline(never)]
     #[tactic(auto, unfolding(sql_grammar::specs::Readers::ty_of))]
-    pub fn ty_of(&self, tokens: &mut Cursor<'_>) -> Result<GrownTy, ReadError>
+    pub fn ty_of(&self, tokens: &mut Cursor<'_>) -> Result<Boxed<GrownTy>, ReadError>
         requires { Nests self.now.depth (F.pre self.now.inner) (F.post self.now.inner) }
         ensures { Reads (spec.ty_of self.now.depth too_high (spec.inside too_high self.now.depth) tokens.old) result tokens.new }
     {
         if tokens.sees_scalar() {
-            return Ok(scalar_ty(tokens.scalar()?));
+            let scalar = tokens.scalar()?;
+            return Ok(scalar_ty(self.alloc, scalar)?);
         }
         if tokens.sees_word(Keyword::Row) {
             tokens.expect_word(false, Keyword::Row)?;
-            return Ok(row_ty(self.types_within(tokens)?));
+            let all = self.types_within(tokens)?;
+            return Ok(row_ty(self.alloc, all)?);
         }
         self.array_of_ty(tokens)
     }

@@ -9,3 +9,7 @@ use Rattle.sql_print.specs.Lists.{tokens_of}
 -- The one text spells a statement, and the other is how that statement is printed.
 abbrev pub IsReprint : List ℕ → List ℕ → Type 0
 IsReprint text printed = (s : GrownSelect) × IsTextOf text s × (printed ≡ text_of (tokens_of (record { select = s.select })))
+
+-- The text of the statement is read back as this statement: it spells a tree with its places, and each tree that it spells is the statement's.
+abbrev pub IsReadBackAs : List ℕ → Stmt → Type 0
+IsReadBackAs text s = ((x : GrownSelect) × IsTextOf text x) × ((x : GrownSelect) → IsTextOf text x → x.select ≡ s.select)

@@ -1,8 +1,10 @@
 //! A statement of SQL read and printed again.
 #![tactic(auto)]
 
+mod laws;
 mod reprint;
 #[cfg(test)]
 mod tests;
 
+pub use laws::printed_is_read_back;
 pub use reprint::reprinted;

@@ -75,16 +75,43 @@ fn is_read(alloc: Global, text: &str) -> Result<bool, AllocError> {
     Ok(shown(alloc, text.as_bytes())?.as_str() != "query Q1")
 }
 
+/// Whether so many such openings round a one are read as a statement.
+fn is_read_inside(
+    alloc: Global,
+    times: u32,
+    before: &str,
+    behind: &str,
+) -> Result<bool, AllocError> {
+    is_read(alloc, repeated(alloc, times, before, behind)?.as_str())
+}
+
 #[test]
 fn limits_are_kept(rt: HostRuntime) -> Result<(), Fail> {
-    assert!(rt; is_read(rt.alloc(), repeated(rt.alloc(), 1000, "(", ")")?.as_str())?);
-    assert!(rt; is_read(rt.alloc(), repeated(rt.alloc(), 798, "1 + ", "")?.as_str())?);
-    assert!(rt; !is_read(rt.alloc(), repeated(rt.alloc(), 799, "1 + ", "")?.as_str())?);
+    assert!(rt; is_read_inside(rt.alloc(), 1600, "(", ")")?);
+    assert!(rt; !is_read_inside(rt.alloc(), 1601, "(", ")")?);
+    assert!(rt; is_read_inside(rt.alloc(), 399, "ARRAY (SELECT ", " AS \"n\")")?);
+    assert!(rt; !is_read_inside(rt.alloc(), 400, "ARRAY (SELECT ", " AS \"n\")")?);
+    assert!(rt; is_read_inside(rt.alloc(), 798, "NOT ", "")?);
+    assert!(rt; !is_read_inside(rt.alloc(), 799, "- ", "")?);
+    assert!(rt; is_read_inside(rt.alloc(), 798, "1 + ", "")?);
+    assert!(rt; !is_read_inside(rt.alloc(), 799, "1 + ", "")?);
+    Ok(())
+}
+
+#[test]
+fn deep_texts_stay_within_the_stack(rt: HostRuntime) -> Result<(), Fail> {
+    assert!(rt; !is_read_inside(rt.alloc(), 1600, "ARRAY (SELECT ", " AS \"n\")")?);
     assert!(rt;
-        !is_read(
+        !is_read_inside(
             rt.alloc(),
-            repeated(rt.alloc(), 500_000, "1 + ", "")?.as_str()
+            1600,
+            "1 AS \"n\" FROM LATERAL (SELECT ",
+            ") AS \"l\""
         )?
     );
+    assert!(rt; !is_read_inside(rt.alloc(), 1600, "ROW (1, ", ")")?);
+    assert!(rt; !is_read_inside(rt.alloc(), 1600, "1 + (", ")")?);
+    assert!(rt; !is_read_inside(rt.alloc(), 1_000_000, "(", "")?);
+    assert!(rt; !is_read_inside(rt.alloc(), 500_000, "1 + ", "")?);
     Ok(())
 }
