@@ -20,6 +20,7 @@ use Rattle.sdl_ast.specs.declared.declaration.FilePart.TheVariants as part
 use Rattle.sdl_ast.specs.declared.declaration.Decl.{Decl}
 use Rattle.sdl_ast.specs.declared.member.Member.{Member}
 use Rattle.sdl_ast.specs.declared.member.Member.TheVariants as member
+use Rattle.sdl_ast.specs.declared.member.PointerKind.{PointerKind}
 use Rattle.sdl_ast.specs.declared.member.PointerKind.TheVariants as pointer_kind
 use Rattle.sdl_ast.specs.declared.member.Annotation.{Annotation}
 use Rattle.sdl_ast.specs.declared.member.Action.{Action}
@@ -89,15 +90,9 @@ module _ (high : ℕ → Bool) (Expr : Lang Token GrownExpr) where
     x ← Value
     Empty (annotation start name x)
 
-  -- annotation Name ':=' Expr ';'
-  abbrev pub Annot : Lang Token Annotation
-  Annot = do
-    at ← One (word_of keyword.Annotation)
-    Annotated at.start
-
-  -- {Annot}
+  -- {annotation Name ':=' Expr ';'}
   abbrev pub Annots : List Annotation → Lang Token (List Annotation)
-  Annots = Chain (λ all. do x ← Annot; Empty (behind all x))
+  Annots = Chain (λ all. do at ← One (word_of keyword.Annotation); x ← Annotated at.start; Empty (behind all x))
 
   -- '{' {Annot} '}' [';'] | ';'
   abbrev pub Notes : Lang Token NoteBlock
@@ -261,10 +256,14 @@ module _ (high : ℕ → Bool) (Expr : Lang Token GrownExpr) where
     block ← Notes
     Empty (policy start name action kinds condition block)
 
+  -- what stands behind the words of Quals and the word `property` or `link`, which may be the pointer's name
+  abbrev pub WithKind : PointerKind → Quals → Name → Lang Token Member
+  WithKind kind q name = Either (Pointed (bare_head q name)) (do own ← One name_of; Pointed (pointer_head q name.span.start (Some kind) own))
+
   -- what stands behind the words of Quals and the word `name`, which is `property` or `link` or the pointer's name
   abbrev pub PointerOf : MemberForm → Quals → Name → Lang Token Member
-  PointerOf member_form.Property q name = Either (Pointed (bare_head q name)) (do own ← One name_of; Pointed (pointer_head q name.span.start (Some pointer_kind.Property) own))
-  PointerOf member_form.Link q name = Either (Pointed (bare_head q name)) (do own ← One name_of; Pointed (pointer_head q name.span.start (Some pointer_kind.Link) own))
+  PointerOf member_form.Property q name = WithKind pointer_kind.Property q name
+  PointerOf member_form.Link q name = WithKind pointer_kind.Link q name
   PointerOf _ q name = Pointed (bare_head q name)
 
   -- [property | link] Name and what stands behind it, behind the words of Quals

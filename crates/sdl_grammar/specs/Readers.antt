@@ -266,12 +266,12 @@ module _ (high : ℕ → Bool) (expr : Reader Token GrownExpr) where
     pure (t.policy start name action kinds condition block)
 
   -- behind `property` or `link`, which may be the name
-  unfoldable pub kind_word : Option PointerKind → Quals → Name → Reader Token Member
-  kind_word kind q name = choose is_pointing (pointed (bare_head q name)) (do own ← one name_of; pointed (pointer_head q name.span.start kind own))
+  unfoldable pub kind_word : PointerKind → Quals → Name → Reader Token Member
+  kind_word kind q name = choose is_pointing (pointed (bare_head q name)) (do own ← one name_of; pointed (pointer_head q name.span.start (Some kind) own))
 
   unfoldable pub pointer_of : MemberForm → Quals → Name → Reader Token Member
-  pointer_of member_form.Property q name = kind_word (Some pointer_kind.Property) q name
-  pointer_of member_form.Link q name = kind_word (Some pointer_kind.Link) q name
+  pointer_of member_form.Property q name = kind_word pointer_kind.Property q name
+  pointer_of member_form.Link q name = kind_word pointer_kind.Link q name
   pointer_of _ q name = pointed (bare_head q name)
 
   unfoldable pub pointer : Quals → Reader Token Member
@@ -287,8 +287,8 @@ module _ (high : ℕ → Bool) (expr : Reader Token GrownExpr) where
 
   unfoldable pub member_of : MemberForm → Name → Reader Token Member
   member_of member_form.Overloaded name = overloaded_member name
-  member_of member_form.Property name = kind_word (Some pointer_kind.Property) no_quals name
-  member_of member_form.Link name = kind_word (Some pointer_kind.Link) no_quals name
+  member_of member_form.Property name = kind_word pointer_kind.Property no_quals name
+  member_of member_form.Link name = kind_word pointer_kind.Link no_quals name
   member_of member_form.Index name = choose is_pointing (pointed (bare_head no_quals name)) (indexed name.span.start)
   member_of member_form.Annotation name = choose is_pointing (pointed (bare_head no_quals name)) (do x ← annotated name.span.start; pure (member.Annotation x))
   member_of member_form.Access name = choose is_pointing (pointed (bare_head no_quals name)) (policed name.span.start)
