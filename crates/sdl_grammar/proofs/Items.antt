@@ -13,7 +13,7 @@ use Rattle.eql_grammar.proofs.Sets.{At, at_mark, avoids_mark, avoids_one_mark, b
 use Rattle.exact.specs.Language.{Lang}
 use Rattle.exact.specs.Reading.{Reader, inside}
 use Rattle.exact.proofs.Heads.{Begins, Avoids, never, begins_then, begins_either, avoids_begins, avoids_begun, avoids_empty, avoids_none, avoids_either, avoids_chain, avoids_then}
-use Rattle.exact.proofs.Laws.{Open, IsExactAt, exact_pure, exact_then, exact_map, exact_lead, exact_choose, exact_chain}
+use Rattle.exact.proofs.Laws.{Open, IsExactAt, exact_pure, exact_then, exact_map, exact_lead, exact_choose, exact_chain, exact_alike}
 use Rattle.sdl_ast.specs.declared.member.Annotation.{Annotation}
 use Rattle.sdl_ast.specs.declared.item.Item.{Item}
 use Rattle.sdl_ast.specs.declared.item.Item.TheVariants as item
@@ -25,6 +25,9 @@ use Rattle.sdl_grammar.specs.declared.part.PointerHead.{PointerHead}
 use Rattle.sdl_grammar.specs.Words.{item_word_of, is_qualifier, is_typing, goes_on}
 use Rattle.sdl_grammar.specs.Trees as t
 use Rattle.sdl_grammar.specs.Grammar as g
+use Rattle.sdl_grammar.proofs.ByWord as b
+use Rattle.sdl_grammar.proofs.Alike.{begins_alike}
+use Rattle.sdl_grammar.proofs.SameItems.{item_alike}
 use Rattle.sdl_grammar.specs.Readers as r
 use Rattle.sdl_grammar.proofs.Sets.{begins_item_word, close_avoids, exact_close, exact_typed, exact_words, names_no_words, some_item_word, typed_begins, word_Annotation, word_Constraint, word_Delete, word_Target, words_begin, words_first}
 
@@ -74,7 +77,7 @@ module _ (high : ℕ → Bool) (L U : Lang Token GrownExpr) (P : Reader Token Gr
   propertied_begins : {first : Token → Bool} → At (ASign sign.Colon) first true → At (ASign sign.Arrow) first true → (head : PointerHead) → Begins first (g.Propertied high L head)
   propertied_begins a b head = begins_then (typed_begins a b)
 
-  exact_property_of : (form : ItemForm) (q : Quals) (name : Name) → IsExactAt Open (g.PropertyOf high L form q name) (g.PropertyOf unlimited U form q name) (r.property_of high P form q name) (λ _. is_sign sign.Semicolon)
+  exact_property_of : (form : ItemForm) (q : Quals) (name : Name) → IsExactAt Open (b.PropertyOf high L form q name) (b.PropertyOf unlimited U form q name) (r.property_of high P form q name) (λ _. is_sign sign.Semicolon)
   unfolding r.property_of r.property_word same_sign same_keyword
   exact_property_of item_form.Property q name =
       exact_choose (exact_propertied (t.bare_head q name)) (exact_lead name_of some_name.token some_name.name some_name.known (λ own. exact_propertied (t.pointer_head q name.span.start None own)))
@@ -88,7 +91,7 @@ module _ (high : ℕ → Bool) (L U : Lang Token GrownExpr) (P : Reader Token Gr
   exact_property_of item_form.Annotation q name = exact_propertied (t.bare_head q name)
   exact_property_of item_form.Other q name = exact_propertied (t.bare_head q name)
 
-  exact_property : (q : Quals) → IsExactAt Open (g.Property high L q) (g.Property unlimited U q) (r.property high P q) (λ _. is_sign sign.Semicolon)
+  exact_property : (q : Quals) → IsExactAt Open (b.Property high L q) (b.Property unlimited U q) (r.property high P q) (λ _. is_sign sign.Semicolon)
   unfolding r.property
   exact_property q = exact_lead item_word_of some_item_word.token some_item_word.word some_item_word.known (λ word. exact_property_of word.form q word.name)
 
@@ -145,7 +148,7 @@ module _ (high : ℕ → Bool) (L U : Lang Token GrownExpr) (P : Reader Token Gr
 
   -- ---- items
 
-  exact_item_of : (form : ItemForm) (name : Name) → IsExactAt Open (g.ItemOf high L form name) (g.ItemOf unlimited U form name) (r.item_of high P form name) (λ _. is_sign sign.Semicolon)
+  exact_item_of : (form : ItemForm) (name : Name) → IsExactAt Open (b.ItemOf high L form name) (b.ItemOf unlimited U form name) (r.item_of high P form name) (λ _. is_sign sign.Semicolon)
   unfolding r.item_of r.overloaded_item r.property_word r.property_of same_sign same_keyword
   exact_item_of item_form.Overloaded name =
       exact_choose (exact_propertied (t.bare_head t.no_quals name))
@@ -172,17 +175,23 @@ module _ (high : ℕ → Bool) (L U : Lang Token GrownExpr) (P : Reader Token Gr
       (avoids_begun (begins_then (begins_then (begins_name (λ o t e. rw e refl)))))
   exact_item_of item_form.Other name = exact_propertied (t.bare_head t.no_quals name)
 
-  exact_item : IsExactAt Open (g.AnItem high L) (g.AnItem unlimited U) (r.an_item high P) (λ _. is_sign sign.Semicolon)
+  exact_by_word : IsExactAt Open (b.ItemByWord high L) (b.ItemByWord unlimited U) (r.an_item high P) (λ _. is_sign sign.Semicolon)
   unfolding r.an_item same_sign same_keyword
-  exact_item =
+  exact_by_word =
       exact_choose (exact_then exact_words (λ q. exact_property (t.qualified t.no_quals q)) (λ q. avoids_begun (begins_then (begins_item_word names_no_words))))
       (exact_lead item_word_of some_item_word.token some_item_word.word some_item_word.known (λ word. exact_item_of word.form word.name))
       (begins_then words_first)
       (avoids_begun (begins_then (begins_item_word names_no_words)))
 
-  item_begins : Begins goes_on (g.AnItem high L)
+  exact_item : IsExactAt Open (g.AnItem high L) (g.AnItem unlimited U) (r.an_item high P) (λ _. is_sign sign.Semicolon)
+  exact_item = exact_alike (item_alike high L).to (item_alike high L).back (item_alike unlimited U).to exact_by_word
+
+  by_word_begins : Begins goes_on (b.ItemByWord high L)
   unfolding same_sign same_keyword
-  item_begins = begins_either (begins_then (words_begin (λ t e. rw e refl) (λ t e. rw e refl) (λ t e. rw e refl) (λ t e. rw e refl))) (begins_then (begins_item_word (λ o t e. rw e refl)))
+  by_word_begins = begins_either (begins_then (words_begin (λ t e. rw e refl) (λ t e. rw e refl) (λ t e. rw e refl) (λ t e. rw e refl))) (begins_then (begins_item_word (λ o t e. rw e refl)))
+
+  item_begins : Begins goes_on (g.AnItem high L)
+  item_begins = begins_alike (item_alike high L) by_word_begins
 
   exact_some_items : (all : List Item) → IsExactAt Open (g.SomeItems high L all) (g.SomeItems unlimited U all) (r.some_items high P all) (λ _. inside (is_sign sign.RightBrace))
   unfolding r.some_items same_sign same_keyword

@@ -12,7 +12,7 @@ use Rattle.eql_grammar.proofs.Sets.{At, at_mark, avoids_one_mark, begins_name, b
 use Rattle.exact.specs.Language.{Lang}
 use Rattle.exact.specs.Reading.{Reader, inside}
 use Rattle.exact.proofs.Heads.{Begins, Avoids, never, begins_then, begins_either, avoids_begun, avoids_empty, avoids_none, avoids_either, avoids_chain, avoids_then}
-use Rattle.exact.proofs.Laws.{Open, IsExactAt, exact_pure, exact_then, exact_map, exact_lead, exact_choose, exact_chain}
+use Rattle.exact.proofs.Laws.{Open, IsExactAt, exact_pure, exact_then, exact_map, exact_lead, exact_choose, exact_chain, exact_alike}
 use Rattle.sdl_ast.specs.declared.member.Member.{Member}
 use Rattle.sdl_ast.specs.declared.member.Member.TheVariants as member
 use Rattle.sdl_ast.specs.declared.member.PointerKind.{PointerKind}
@@ -28,6 +28,9 @@ use Rattle.sdl_grammar.specs.declared.part.PointerHead.{PointerHead}
 use Rattle.sdl_grammar.specs.Words.{member_word_of, is_qualifier, is_pointing, goes_on}
 use Rattle.sdl_grammar.specs.Trees as t
 use Rattle.sdl_grammar.specs.Grammar as g
+use Rattle.sdl_grammar.proofs.ByWord as b
+use Rattle.sdl_grammar.proofs.Alike.{begins_alike}
+use Rattle.sdl_grammar.proofs.SameMembers.{member_alike}
 use Rattle.sdl_grammar.specs.Readers as r
 use Rattle.sdl_grammar.proofs.Sets.{begins_member_word, close_avoids, exact_close, exact_typed, exact_words, names_no_words, some_member_word, typed_begins, word_All, word_Allow, word_Delete, word_Deny, word_Insert, word_On, word_Policy, word_Read, word_Update, word_Using, word_Write, words_begin, words_first}
 use Rattle.sdl_grammar.proofs.Items.{exact_value, exact_enclosed, exact_annotated, exact_notes, notes_begin, exact_items, items_begin}
@@ -55,14 +58,14 @@ module _ (high : ℕ → Bool) (L U : Lang Token GrownExpr) (P : Reader Token Gr
   pointed_begins a b c head = begins_either (begins_then (typed_begins a b)) (begins_then (begins_one_mark (ASign sign.Assign) c))
 
   exact_kind_word : (kind : PointerKind) (q : Quals) (name : Name)
-      → IsExactAt Open (g.WithKind high L kind q name) (g.WithKind unlimited U kind q name) (r.kind_word high P kind q name) (λ _. is_sign sign.Semicolon)
+      → IsExactAt Open (b.WithKind high L kind q name) (b.WithKind unlimited U kind q name) (r.kind_word high P kind q name) (λ _. is_sign sign.Semicolon)
   unfolding r.kind_word same_sign same_keyword
   exact_kind_word kind q name =
       exact_choose (exact_pointed (t.bare_head q name)) (exact_lead name_of some_name.token some_name.name some_name.known (λ own. exact_pointed (t.pointer_head q name.span.start (Some kind) own)))
       (pointed_begins (λ t e. rw e refl) (λ t e. rw e refl) (λ t e. rw e refl) (t.bare_head q name))
       (avoids_begun (begins_then (begins_name (λ o t e. rw e refl))))
 
-  exact_pointer_of : (form : MemberForm) (q : Quals) (name : Name) → IsExactAt Open (g.PointerOf high L form q name) (g.PointerOf unlimited U form q name) (r.pointer_of high P form q name) (λ _. is_sign sign.Semicolon)
+  exact_pointer_of : (form : MemberForm) (q : Quals) (name : Name) → IsExactAt Open (b.PointerOf high L form q name) (b.PointerOf unlimited U form q name) (r.pointer_of high P form q name) (λ _. is_sign sign.Semicolon)
   unfolding r.pointer_of
   exact_pointer_of member_form.Property q name = exact_kind_word pointer_kind.Property q name
   exact_pointer_of member_form.Link q name = exact_kind_word pointer_kind.Link q name
@@ -72,7 +75,7 @@ module _ (high : ℕ → Bool) (L U : Lang Token GrownExpr) (P : Reader Token Gr
   exact_pointer_of member_form.Access q name = exact_pointed (t.bare_head q name)
   exact_pointer_of member_form.Other q name = exact_pointed (t.bare_head q name)
 
-  exact_pointer : (q : Quals) → IsExactAt Open (g.Pointer high L q) (g.Pointer unlimited U q) (r.pointer high P q) (λ _. is_sign sign.Semicolon)
+  exact_pointer : (q : Quals) → IsExactAt Open (b.Pointer high L q) (b.Pointer unlimited U q) (r.pointer high P q) (λ _. is_sign sign.Semicolon)
   unfolding r.pointer
   exact_pointer q = exact_lead member_word_of some_member_word.token some_member_word.word some_member_word.known (λ word. exact_pointer_of word.form q word.name)
 
@@ -157,7 +160,7 @@ module _ (high : ℕ → Bool) (L U : Lang Token GrownExpr) (P : Reader Token Gr
 
   -- ---- members
 
-  exact_member_of : (form : MemberForm) (name : Name) → IsExactAt Open (g.MemberOf high L form name) (g.MemberOf unlimited U form name) (r.member_of high P form name) (λ _. is_sign sign.Semicolon)
+  exact_member_of : (form : MemberForm) (name : Name) → IsExactAt Open (b.MemberOf high L form name) (b.MemberOf unlimited U form name) (r.member_of high P form name) (λ _. is_sign sign.Semicolon)
   unfolding r.member_of r.overloaded_member same_sign same_keyword
   exact_member_of member_form.Overloaded name =
       exact_choose (exact_pointed (t.bare_head t.no_quals name))
@@ -179,17 +182,23 @@ module _ (high : ℕ → Bool) (L U : Lang Token GrownExpr) (P : Reader Token Gr
       (avoids_one_mark (Named (Some keyword.Policy)) (λ t e. rw e refl))
   exact_member_of member_form.Other name = exact_pointed (t.bare_head t.no_quals name)
 
-  exact_member : IsExactAt Open (g.AMember high L) (g.AMember unlimited U) (r.a_member high P) (λ _. is_sign sign.Semicolon)
+  exact_by_word : IsExactAt Open (b.MemberByWord high L) (b.MemberByWord unlimited U) (r.a_member high P) (λ _. is_sign sign.Semicolon)
   unfolding r.a_member same_sign same_keyword
-  exact_member =
+  exact_by_word =
       exact_choose (exact_then exact_words (λ q. exact_pointer (t.qualified t.no_quals q)) (λ q. avoids_begun (begins_then (begins_member_word names_no_words))))
       (exact_lead member_word_of some_member_word.token some_member_word.word some_member_word.known (λ word. exact_member_of word.form word.name))
       (begins_then words_first)
       (avoids_begun (begins_then (begins_member_word names_no_words)))
 
-  member_begins : Begins goes_on (g.AMember high L)
+  exact_member : IsExactAt Open (g.AMember high L) (g.AMember unlimited U) (r.a_member high P) (λ _. is_sign sign.Semicolon)
+  exact_member = exact_alike (member_alike high L).to (member_alike high L).back (member_alike unlimited U).to exact_by_word
+
+  by_word_begins : Begins goes_on (b.MemberByWord high L)
   unfolding same_sign same_keyword
-  member_begins = begins_either (begins_then (words_begin (λ t e. rw e refl) (λ t e. rw e refl) (λ t e. rw e refl) (λ t e. rw e refl))) (begins_then (begins_member_word (λ o t e. rw e refl)))
+  by_word_begins = begins_either (begins_then (words_begin (λ t e. rw e refl) (λ t e. rw e refl) (λ t e. rw e refl) (λ t e. rw e refl))) (begins_then (begins_member_word (λ o t e. rw e refl)))
+
+  member_begins : Begins goes_on (g.AMember high L)
+  member_begins = begins_alike (member_alike high L) by_word_begins
 
   exact_some_members : (all : List Member) → IsExactAt Open (g.SomeMembers high L all) (g.SomeMembers unlimited U all) (r.some_members high P all) (λ _. inside (is_sign sign.RightBrace))
   unfolding r.some_members same_sign same_keyword

@@ -103,11 +103,11 @@ word_Update = word_sample keyword.Update refl refl
 
 -- ---- words that begin members and items
 
-member_some : (form : MemberForm) (o : Option Name) (w : MemberWord) → member_named form o ≡ Some w → o ≡ Some w.name
+pub member_some : (form : MemberForm) (o : Option Name) (w : MemberWord) → member_named form o ≡ Some w → o ≡ Some w.name
 member_some form None w h = absurd cc
 member_some form (Some name) w h = ap (λ (o : Option MemberWord). elim o as (λ _. Option Name) [ None ↦ None | Some w ↦ Some w.name ]) h
 
-item_some : (form : ItemForm) (o : Option Name) (w : ItemWord) → item_named form o ≡ Some w → o ≡ Some w.name
+pub item_some : (form : ItemForm) (o : Option Name) (w : ItemWord) → item_named form o ≡ Some w → o ≡ Some w.name
 item_some form None w h = absurd cc
 item_some form (Some name) w h = ap (λ (o : Option ItemWord). elim o as (λ _. Option Name) [ None ↦ None | Some w ↦ Some w.name ]) h
 

@@ -1,5 +1,6 @@
 -- The grammar of schemas: which tokens spell which tree, with nothing behind an expression that is too high.
 -- Words that are not reserved are matched in their places without regard to case, and are names elsewhere.
+-- The comment before each language is its production.
 use Rattle.std.specs.Prelude.{ℕ, Bool, true, false, List, [], ◌∷◌, Option, Some, None}
 use Rattle.ev_lex.specs.declared.token.Token.{Token}
 use Rattle.ev_lex.specs.declared.token.Sign.TheVariants as sign
@@ -20,7 +21,6 @@ use Rattle.sdl_ast.specs.declared.declaration.FilePart.TheVariants as part
 use Rattle.sdl_ast.specs.declared.declaration.Decl.{Decl}
 use Rattle.sdl_ast.specs.declared.member.Member.{Member}
 use Rattle.sdl_ast.specs.declared.member.Member.TheVariants as member
-use Rattle.sdl_ast.specs.declared.member.PointerKind.{PointerKind}
 use Rattle.sdl_ast.specs.declared.member.PointerKind.TheVariants as pointer_kind
 use Rattle.sdl_ast.specs.declared.member.Annotation.{Annotation}
 use Rattle.sdl_ast.specs.declared.member.Action.{Action}
@@ -33,17 +33,12 @@ use Rattle.sdl_ast.specs.declared.item.Item.{Item}
 use Rattle.sdl_ast.specs.declared.item.Item.TheVariants as item
 use Rattle.sdl_ast.specs.declared.item.DeletionWord.{DeletionWord}
 use Rattle.sdl_ast.specs.declared.item.DeletionWord.TheVariants as deletion_word
-use Rattle.sdl_grammar.specs.declared.form.MemberForm.{MemberForm}
-use Rattle.sdl_grammar.specs.declared.form.MemberForm.TheVariants as member_form
-use Rattle.sdl_grammar.specs.declared.form.ItemForm.{ItemForm}
-use Rattle.sdl_grammar.specs.declared.form.ItemForm.TheVariants as item_form
 use Rattle.sdl_grammar.specs.declared.part.Quals.{Quals}
 use Rattle.sdl_grammar.specs.declared.part.PointerHead.{PointerHead}
 use Rattle.sdl_grammar.specs.declared.part.EndedExpr.{EndedExpr}
 use Rattle.sdl_grammar.specs.declared.part.NoteBlock.{NoteBlock}
 use Rattle.sdl_grammar.specs.declared.part.ItemBlock.{ItemBlock}
 use Rattle.sdl_grammar.specs.declared.part.MemberBlock.{MemberBlock}
-use Rattle.sdl_grammar.specs.Words.{member_word_of, item_word_of}
 use Rattle.sdl_grammar.specs.Trees.{behind, ended, annotation, notes, items, members, no_quals, overloaded, qualified, turned_words, pointer_head, bare_head, link_property, constraint, default_item, deletion, stored, computed, index, policy, type_decl, global_decl, module_of, no_parts, with_part}
 use Rattle.exact.specs.Language.{Lang, ◌>>=◌, ◌>>◌, Empty, One, OneWithin, Either, Chain}
 
@@ -64,6 +59,29 @@ abbrev pub Words : Lang Token Qualified
 Words =
     Either (do first ← One need_of; Either (do second ← One width_of; Empty (both_words first second)) (Empty first))
     (do first ← One width_of; Either (do second ← One need_of; Empty (turned_words first second)) (Empty first))
+
+-- [overloaded]
+abbrev pub Overloaded : Lang Token Quals
+Overloaded = Either (do at ← One (word_of keyword.Overloaded); Empty (overloaded at.start)) (Empty no_quals)
+
+-- Quals: [overloaded] ([Need] [Width] | [Width] [Need]). With at most one of the latter words both orders are one derivation.
+abbrev pub QualWords : Lang Token Quals
+QualWords = do
+  before ← Overloaded
+  Either (do q ← Words; Empty (qualified before q)) (Empty before)
+
+-- [property] Name, behind the words of Quals
+abbrev pub PropertyName : Quals → Lang Token PointerHead
+PropertyName q =
+    Either (do at ← One (word_of keyword.Property); name ← One name_of; Empty (pointer_head q at.start None name))
+    (do name ← One name_of; Empty (bare_head q name))
+
+-- [property | link] Name, behind the words of Quals
+abbrev pub PointerName : Quals → Lang Token PointerHead
+PointerName q =
+    Either (do at ← One (word_of keyword.Property); name ← One name_of; Empty (pointer_head q at.start (Some pointer_kind.Property) name))
+    (Either (do at ← One (word_of keyword.Link); name ← One name_of; Empty (pointer_head q at.start (Some pointer_kind.Link) name))
+    (do name ← One name_of; Empty (bare_head q name)))
 
 -- `high` says which heights are too high, and `Expr` is what an expression is.
 module _ (high : ℕ → Bool) (Expr : Lang Token GrownExpr) where
@@ -155,35 +173,34 @@ module _ (high : ℕ → Bool) (Expr : Lang Token GrownExpr) where
     at ← One (sign_of sign.Semicolon)
     Empty (deletion start first more at)
 
-  -- what stands behind the words of Quals and the word `name`, which is `property` or the property's name
-  abbrev pub PropertyOf : ItemForm → Quals → Name → Lang Token Item
-  PropertyOf item_form.Property q name = Either (Propertied (bare_head q name)) (do own ← One name_of; Propertied (pointer_head q name.span.start None own))
-  PropertyOf _ q name = Propertied (bare_head q name)
+  -- [delegated] constraint Name ['(' Expr {',' Expr} ')'] ';'
+  abbrev pub Constraint : Lang Token Item
+  Constraint =
+      Either (do at ← One (word_of keyword.Delegated); One (word_of keyword.Constraint); Constrained at.start true)
+      (do at ← One (word_of keyword.Constraint); Constrained at.start false)
 
-  -- [property] Name (':' | '->') QName ('{' {Annot} '}' [';'] | ';'), behind the words of Quals
-  abbrev pub Property : Quals → Lang Token Item
-  Property q = do
-    word ← One item_word_of
-    PropertyOf word.form q word.name
+  -- default ':=' Expr ';'
+  abbrev pub Default : Lang Token Item
+  Default = do
+    at ← One (word_of keyword.Default)
+    Defaulted at.start
 
-  -- what stands behind the word `name` where an item begins with it
-  abbrev pub ItemOf : ItemForm → Name → Lang Token Item
-  ItemOf item_form.Overloaded name =
-      Either (Propertied (bare_head no_quals name))
-      (Either (do q ← Words; Property (qualified (overloaded name.span.start) q)) (Property (overloaded name.span.start)))
-  ItemOf item_form.Property name = PropertyOf item_form.Property no_quals name
-  ItemOf item_form.Constraint name = Either (Propertied (bare_head no_quals name)) (Constrained name.span.start false)
-  ItemOf item_form.Delegated name = Either (Propertied (bare_head no_quals name)) (do One (word_of keyword.Constraint); Constrained name.span.start true)
-  ItemOf item_form.Default name = Either (Propertied (bare_head no_quals name)) (Defaulted name.span.start)
-  ItemOf item_form.On name = Either (Propertied (bare_head no_quals name)) (Deleting name.span.start)
-  ItemOf item_form.Annotation name = Either (Propertied (bare_head no_quals name)) (do x ← Annotated name.span.start; Empty (item.Annotation x))
-  ItemOf item_form.Other name = Propertied (bare_head no_quals name)
+  -- on target delete (Name | delete) {Name} ';'
+  abbrev pub Deletion : Lang Token Item
+  Deletion = do
+    at ← One (word_of keyword.On)
+    Deleting at.start
 
-  -- an item, by its first word
+  -- Quals [property] Name (':' | '->') QName ('{' {Annot} '}' [';'] | ';')
+  abbrev pub LinkProperty : Lang Token Item
+  LinkProperty = do
+    q ← QualWords
+    head ← PropertyName q
+    Propertied head
+
+  -- [delegated] constraint .. | default .. | on target delete .. | Annot | Quals [property] Name ..
   abbrev pub AnItem : Lang Token Item
-  AnItem =
-      Either (do q ← Words; Property (qualified no_quals q))
-      (do word ← One item_word_of; ItemOf word.form word.name)
+  AnItem = Either Constraint (Either Default (Either Deletion (Either (do at ← One (word_of keyword.Annotation); x ← Annotated at.start; Empty (item.Annotation x)) LinkProperty)))
 
   -- {Item}
   abbrev pub SomeItems : List Item → Lang Token (List Item)
@@ -256,39 +273,28 @@ module _ (high : ℕ → Bool) (Expr : Lang Token GrownExpr) where
     block ← Notes
     Empty (policy start name action kinds condition block)
 
-  -- what stands behind the words of Quals and the word `property` or `link`, which may be the pointer's name
-  abbrev pub WithKind : PointerKind → Quals → Name → Lang Token Member
-  WithKind kind q name = Either (Pointed (bare_head q name)) (do own ← One name_of; Pointed (pointer_head q name.span.start (Some kind) own))
+  -- Quals [property | link] Name (':' | '->') QName ('{' {Item} '}' [';'] | ';') | Quals [property | link] Name ':=' Expr ';'
+  abbrev pub Pointer : Lang Token Member
+  Pointer = do
+    q ← QualWords
+    head ← PointerName q
+    Pointed head
 
-  -- what stands behind the words of Quals and the word `name`, which is `property` or `link` or the pointer's name
-  abbrev pub PointerOf : MemberForm → Quals → Name → Lang Token Member
-  PointerOf member_form.Property q name = WithKind pointer_kind.Property q name
-  PointerOf member_form.Link q name = WithKind pointer_kind.Link q name
-  PointerOf _ q name = Pointed (bare_head q name)
+  -- access policy Name ..
+  abbrev pub Policy : Lang Token Member
+  Policy = do
+    at ← One (word_of keyword.Access)
+    Policed at.start
 
-  -- [property | link] Name and what stands behind it, behind the words of Quals
-  abbrev pub Pointer : Quals → Lang Token Member
-  Pointer q = do
-    word ← One member_word_of
-    PointerOf word.form q word.name
+  -- index on '(' Expr ')' ';'
+  abbrev pub Index : Lang Token Member
+  Index = do
+    at ← One (word_of keyword.Index)
+    Indexed at.start
 
-  -- what stands behind the word `name` where a member begins with it
-  abbrev pub MemberOf : MemberForm → Name → Lang Token Member
-  MemberOf member_form.Overloaded name =
-      Either (Pointed (bare_head no_quals name))
-      (Either (do q ← Words; Pointer (qualified (overloaded name.span.start) q)) (Pointer (overloaded name.span.start)))
-  MemberOf member_form.Property name = PointerOf member_form.Property no_quals name
-  MemberOf member_form.Link name = PointerOf member_form.Link no_quals name
-  MemberOf member_form.Index name = Either (Pointed (bare_head no_quals name)) (Indexed name.span.start)
-  MemberOf member_form.Annotation name = Either (Pointed (bare_head no_quals name)) (do x ← Annotated name.span.start; Empty (member.Annotation x))
-  MemberOf member_form.Access name = Either (Pointed (bare_head no_quals name)) (Policed name.span.start)
-  MemberOf member_form.Other name = Pointed (bare_head no_quals name)
-
-  -- a member, by its first word
+  -- Ptr | Policy | index on '(' Expr ')' ';' | Annot
   abbrev pub AMember : Lang Token Member
-  AMember =
-      Either (do q ← Words; Pointer (qualified no_quals q))
-      (do word ← One member_word_of; MemberOf word.form word.name)
+  AMember = Either Pointer (Either Policy (Either Index (do at ← One (word_of keyword.Annotation); x ← Annotated at.start; Empty (member.Annotation x))))
 
   -- {Member}
   abbrev pub SomeMembers : List Member → Lang Token (List Member)
