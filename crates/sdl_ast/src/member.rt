@@ -3,7 +3,7 @@ ghost use Rattle.std.specs.Prelude.{◌≡◌};
 ghost use Rattle.sdl_ast.specs.Places.{member_span};
 
 use crate::item::Item;
-use ast::{Expr, Name, Qualifiers, QualifiedName, Span};
+use ast::{Expr, Name, QualifiedName, Qualifiers, Span};
 use ev_value::List;
 
 /// A member of a type.

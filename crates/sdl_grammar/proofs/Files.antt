@@ -1,5 +1,5 @@
 -- The readers of declarations, modules and files are exact for the grammar.
-use Rattle.std.proofs.Common.{◌≡◌, ℕ, Bool, true, false, not, ◌||◌, List, [], ◌∷◌, Option, Some, None, refl, ap}
+use Rattle.std.proofs.Common.{ℕ, Bool, true, false, ◌||◌, List, [], ◌∷◌, Some, refl}
 use Rattle.ev_lex.specs.declared.token.Token.{Token}
 use Rattle.ev_lex.specs.declared.token.Sign.TheVariants as sign
 use Rattle.ev_lex.specs.declared.keyword.Keyword.TheVariants as keyword
@@ -12,9 +12,8 @@ use Rattle.eql_grammar.proofs.Sets.{At, at_mark, avoids_one_mark, begins_one_mar
 use Rattle.eql_grammar.proofs.Exprs.{exact_qname}
 use Rattle.exact.specs.Language.{Lang}
 use Rattle.exact.specs.Reading.{Reader, inside}
-use Rattle.exact.proofs.Heads.{Begins, Avoids, never, begins_then, begins_either, avoids_begun, avoids_empty, avoids_none, avoids_either, avoids_chain, avoids_then}
+use Rattle.exact.proofs.Heads.{Begins, begins_then, begins_either, avoids_begun, avoids_empty, avoids_either, avoids_chain}
 use Rattle.exact.proofs.Laws.{Open, IsExactAt, exact_pure, exact_then, exact_map, exact_lead, exact_choose, exact_chain}
-use Rattle.sdl_ast.specs.declared.declaration.SdlFile.{SdlFile}
 use Rattle.sdl_ast.specs.declared.declaration.FilePart.TheVariants as part
 use Rattle.sdl_ast.specs.declared.declaration.Decl.{Decl}
 use Rattle.sdl_grammar.specs.Words.{is_decl, is_part}

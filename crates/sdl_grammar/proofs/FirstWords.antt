@@ -1,5 +1,5 @@
 -- What the word that a member or an item begins with is read as.
-use Rattle.std.proofs.Common.{◌≡◌, ℕ, Bool, true, false, cond, List, [], ◌∷◌, Option, Some, None, refl, sym, ap, subst, ◌∙◌}
+use Rattle.std.proofs.Common.{◌≡◌, Bool, true, false, cond, Option, Some, None, refl, sym, ap, subst, ◌∙◌}
 use Rattle.ev_lex.specs.declared.token.Token.{Token}
 use Rattle.ev_lex.specs.declared.keyword.Keyword.TheVariants as keyword
 use Rattle.ast.specs.declared.name.Span.{Span}

@@ -1,5 +1,5 @@
 -- The readers of values, annotations and items are exact for the grammar.
-use Rattle.std.proofs.Common.{◌≡◌, ℕ, Bool, true, false, not, ◌||◌, List, [], ◌∷◌, Option, Some, None, refl, ap}
+use Rattle.std.proofs.Common.{ℕ, Bool, true, false, List, [], Some, None, refl}
 use Rattle.ev_lex.specs.declared.token.Token.{Token}
 use Rattle.ev_lex.specs.declared.token.Sign.TheVariants as sign
 use Rattle.ev_lex.specs.declared.keyword.Keyword.TheVariants as keyword
@@ -12,7 +12,7 @@ use Rattle.eql_grammar.specs.Trees.{unlimited, nothing_yet, alone, added}
 use Rattle.eql_grammar.proofs.Sets.{At, at_mark, avoids_mark, avoids_one_mark, begins_mark, begins_name, begins_one_mark, behind, closes_mark, go, lacks_mark, lead, list_go, or_left, or_right, some_name, some_sign}
 use Rattle.exact.specs.Language.{Lang}
 use Rattle.exact.specs.Reading.{Reader, inside}
-use Rattle.exact.proofs.Heads.{Begins, Avoids, never, begins_then, begins_either, avoids_begins, avoids_begun, avoids_empty, avoids_none, avoids_either, avoids_chain, avoids_then}
+use Rattle.exact.proofs.Heads.{Begins, never, begins_then, begins_either, avoids_begun, avoids_empty, avoids_none, avoids_chain, avoids_then}
 use Rattle.exact.proofs.Laws.{Open, IsExactAt, exact_pure, exact_then, exact_map, exact_lead, exact_choose, exact_chain, exact_alike}
 use Rattle.sdl_ast.specs.declared.member.Annotation.{Annotation}
 use Rattle.sdl_ast.specs.declared.item.Item.{Item}
@@ -22,7 +22,7 @@ use Rattle.sdl_grammar.specs.declared.form.ItemForm.{ItemForm}
 use Rattle.sdl_grammar.specs.declared.form.ItemForm.TheVariants as item_form
 use Rattle.sdl_grammar.specs.declared.part.Quals.{Quals}
 use Rattle.sdl_grammar.specs.declared.part.PointerHead.{PointerHead}
-use Rattle.sdl_grammar.specs.Words.{item_word_of, is_qualifier, is_typing, goes_on}
+use Rattle.sdl_grammar.specs.Words.{item_word_of, goes_on}
 use Rattle.sdl_grammar.specs.Trees as t
 use Rattle.sdl_grammar.specs.Grammar as g
 use Rattle.sdl_grammar.proofs.ByWord as b

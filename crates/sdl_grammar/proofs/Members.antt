@@ -1,5 +1,5 @@
 -- The readers of members are exact for the grammar.
-use Rattle.std.proofs.Common.{◌≡◌, ℕ, Bool, true, false, not, ◌||◌, List, [], ◌∷◌, Option, Some, None, refl, ap}
+use Rattle.std.proofs.Common.{ℕ, Bool, true, ◌||◌, List, [], ◌∷◌, Some, None, refl}
 use Rattle.ev_lex.specs.declared.token.Token.{Token}
 use Rattle.ev_lex.specs.declared.token.Sign.TheVariants as sign
 use Rattle.ev_lex.specs.declared.keyword.Keyword.TheVariants as keyword
@@ -11,7 +11,7 @@ use Rattle.eql_grammar.specs.Trees.{unlimited}
 use Rattle.eql_grammar.proofs.Sets.{At, at_mark, avoids_one_mark, begins_name, begins_one_mark, closes_mark, go, lacks_mark, lead, or_left, or_right, some_name, some_sign, word_Select}
 use Rattle.exact.specs.Language.{Lang}
 use Rattle.exact.specs.Reading.{Reader, inside}
-use Rattle.exact.proofs.Heads.{Begins, Avoids, never, begins_then, begins_either, avoids_begun, avoids_empty, avoids_none, avoids_either, avoids_chain, avoids_then}
+use Rattle.exact.proofs.Heads.{Begins, never, begins_then, begins_either, avoids_begun, avoids_empty, avoids_none, avoids_either, avoids_chain, avoids_then}
 use Rattle.exact.proofs.Laws.{Open, IsExactAt, exact_pure, exact_then, exact_map, exact_lead, exact_choose, exact_chain, exact_alike}
 use Rattle.sdl_ast.specs.declared.member.Member.{Member}
 use Rattle.sdl_ast.specs.declared.member.Member.TheVariants as member
@@ -25,7 +25,7 @@ use Rattle.sdl_grammar.specs.declared.form.MemberForm.{MemberForm}
 use Rattle.sdl_grammar.specs.declared.form.MemberForm.TheVariants as member_form
 use Rattle.sdl_grammar.specs.declared.part.Quals.{Quals}
 use Rattle.sdl_grammar.specs.declared.part.PointerHead.{PointerHead}
-use Rattle.sdl_grammar.specs.Words.{member_word_of, is_qualifier, is_pointing, goes_on}
+use Rattle.sdl_grammar.specs.Words.{member_word_of, goes_on}
 use Rattle.sdl_grammar.specs.Trees as t
 use Rattle.sdl_grammar.specs.Grammar as g
 use Rattle.sdl_grammar.proofs.ByWord as b

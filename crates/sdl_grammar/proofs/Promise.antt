@@ -1,10 +1,10 @@
 -- What is promised of the reader of schemas.
-use Rattle.std.proofs.Common.{◌≡◌, ℕ, suc, ◌+◌, ◌≤◌, Bool, true, false, List, [], length, refl, sym, ap, ◌∙◌, arith}
+use Rattle.std.proofs.Common.{◌≡◌, ℕ, suc, ◌+◌, ◌≤◌, true, false, List, [], length, refl, arith}
 use Rattle.exact.specs.declared.rule.Rule.{Rule}
 use Rattle.exact.specs.declared.rule.Rule.TheVariants.{Unexpected, TooDeep}
 use Rattle.exact.specs.Language.{Lang}
 use Rattle.exact.specs.Reading.{Reader, Got, Stop, whole}
-use Rattle.exact.specs.Promise.{Any, Spells, IsRefused, Ended}
+use Rattle.exact.specs.Promise.{Any, IsRefused, Ended}
 use Rattle.exact.proofs.Exact.{IsExact}
 use Rattle.exact.proofs.Laws.{Grows, Loosens, Open, IsExactAt}
 use Rattle.exact.proofs.Whole.{one_value_alone, whole_found, whole_only, whole_refused, whole_left, refused_once, spelled_not_refused, any_loosens}

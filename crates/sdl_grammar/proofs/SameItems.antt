@@ -1,5 +1,5 @@
 -- Items spell the same as they are written in the grammar and by their first word.
-use Rattle.std.proofs.Common.{◌≡◌, ℕ, ◌-◌, Bool, true, false, List, [], ◌∷◌, ◌++◌, length, Option, Some, None, refl, ap, inl, inr}
+use Rattle.std.proofs.Common.{◌≡◌, ℕ, ◌-◌, Bool, true, false, List, [], ◌∷◌, ◌++◌, length, Some, None, ap, inl, inr}
 use Rattle.ev_lex.specs.declared.token.Token.{Token}
 use Rattle.ev_lex.specs.declared.keyword.Keyword.{Keyword}
 use Rattle.ev_lex.specs.declared.keyword.Keyword.TheVariants as keyword
@@ -12,13 +12,12 @@ use Rattle.sdl_ast.specs.declared.item.Item.{Item}
 use Rattle.sdl_ast.specs.declared.item.Item.TheVariants as tree
 use Rattle.sdl_grammar.specs.declared.form.ItemForm.{ItemForm}
 use Rattle.sdl_grammar.specs.declared.form.ItemForm.TheVariants as item
-use Rattle.sdl_grammar.specs.declared.form.ItemWord.{ItemWord}
 use Rattle.sdl_grammar.specs.declared.part.Quals.{Quals}
 use Rattle.sdl_grammar.specs.Words.{item_form, item_named, item_word_of}
 use Rattle.sdl_grammar.specs.Trees.{no_quals, overloaded, qualified, pointer_head, bare_head}
 use Rattle.sdl_grammar.specs.Grammar as g
 use Rattle.sdl_grammar.proofs.ByWord as b
-use Rattle.sdl_grammar.proofs.Alike.{Alike, alike_same, alike_chain, alike_either, alike_behind, alike_assoc, alike_unit, alike_split, alike_map, swapped, led}
+use Rattle.sdl_grammar.proofs.Alike.{Alike, alike_chain, alike_either, alike_behind, alike_assoc, alike_unit, alike_split, alike_map, swapped, led}
 use Rattle.sdl_grammar.proofs.FirstWords.{ItemWordAt, item_word_known, word_known, item_Overloaded, item_Property, item_Constraint, item_Delegated, item_Default, item_On, item_Annotation}
 
 -- ---- the words before a name

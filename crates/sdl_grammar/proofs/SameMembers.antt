@@ -1,5 +1,5 @@
 -- Members spell the same as they are written in the grammar and by their first word.
-use Rattle.std.proofs.Common.{◌≡◌, ℕ, ◌-◌, Bool, true, false, List, [], ◌∷◌, ◌++◌, length, Option, Some, None, refl, ap, inl, inr}
+use Rattle.std.proofs.Common.{◌≡◌, ℕ, ◌-◌, Bool, true, List, [], ◌∷◌, ◌++◌, length, Some, ap, inl, inr}
 use Rattle.ev_lex.specs.declared.token.Token.{Token}
 use Rattle.ev_lex.specs.declared.keyword.Keyword.{Keyword}
 use Rattle.ev_lex.specs.declared.keyword.Keyword.TheVariants as keyword
@@ -13,7 +13,6 @@ use Rattle.sdl_ast.specs.declared.member.PointerKind.{PointerKind}
 use Rattle.sdl_ast.specs.declared.member.PointerKind.TheVariants as pointer_kind
 use Rattle.sdl_grammar.specs.declared.form.MemberForm.{MemberForm}
 use Rattle.sdl_grammar.specs.declared.form.MemberForm.TheVariants as member
-use Rattle.sdl_grammar.specs.declared.form.MemberWord.{MemberWord}
 use Rattle.sdl_grammar.specs.declared.part.Quals.{Quals}
 use Rattle.sdl_grammar.specs.Words.{member_form, member_named, member_word_of}
 use Rattle.sdl_grammar.specs.Trees.{no_quals, overloaded, pointer_head, bare_head}

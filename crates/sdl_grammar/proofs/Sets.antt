@@ -4,15 +4,13 @@ use Rattle.ev_lex.specs.declared.token.Token.{Token}
 use Rattle.ev_lex.specs.declared.token.Sign.TheVariants as sign
 use Rattle.ev_lex.specs.declared.keyword.Keyword.TheVariants as keyword
 use Rattle.ast.specs.declared.name.Name.{Name}
-use Rattle.ast.specs.declared.name.QualifiedName.{QualifiedName}
 use Rattle.ast.specs.declared.shape.Need.TheVariants as need
 use Rattle.ast.specs.declared.shape.Width.TheVariants as width
 use Rattle.eql_grammar.specs.declared.class.Class.{Class}
-use Rattle.eql_grammar.specs.declared.class.Class.TheVariants.{Sign as ASign, Reserved, Named}
-use Rattle.eql_grammar.specs.Words.{is_sign, is_word, word_class, same_sign, same_keyword, mark_of, sign_of, word_of, name_of, need_of, width_of, needed, wide}
+use Rattle.eql_grammar.specs.declared.class.Class.TheVariants.{Sign as ASign, Reserved}
+use Rattle.eql_grammar.specs.Words.{is_sign, word_class, same_sign, same_keyword, sign_of, name_of, need_of, width_of, needed, wide}
 use Rattle.eql_grammar.specs.Trees.{both_words}
-use Rattle.eql_grammar.specs.Grammar.{QName}
-use Rattle.eql_grammar.proofs.Sets.{At, AtNames, Sample, begins_name, begins_one_mark, avoids_one_mark, begins_either_word, either_at, either_has, got, go, lead, or_left, or_one, or_other, or_right, some_name, some_need, some_sign, some_width, word_sample}
+use Rattle.eql_grammar.proofs.Sets.{At, AtNames, Sample, begins_name, begins_one_mark, begins_either_word, either_at, either_has, got, go, lead, or_left, or_one, or_other, or_right, some_name, some_need, some_sign, some_width, word_sample}
 use Rattle.eql_grammar.proofs.Exprs.{exact_qname}
 use Rattle.exact.specs.Language.{Lang, Then, One}
 use Rattle.exact.specs.Reading.{has, inside}

@@ -5,7 +5,6 @@ use Rattle.std.specs.Prelude.{ℕ, Bool, true, false, List, [], ◌∷◌, Optio
 use Rattle.ev_lex.specs.declared.token.Token.{Token}
 use Rattle.ev_lex.specs.declared.token.Sign.TheVariants as sign
 use Rattle.ev_lex.specs.declared.keyword.Keyword.TheVariants as keyword
-use Rattle.ast.specs.declared.name.Span.{Span}
 use Rattle.ast.specs.declared.name.Name.{Name}
 use Rattle.ast.specs.declared.name.QualifiedName.{QualifiedName}
 use Rattle.ast.specs.declared.expression.Expr as ast

@@ -1,5 +1,5 @@
 -- What is promised of the texts of schemas.
-use Rattle.std.specs.Prelude.{ℕ, Bool, List}
+use Rattle.std.specs.Prelude.{List}
 use Rattle.ev_lex.specs.declared.token.Token.{Token}
 use Rattle.sdl_ast.specs.declared.declaration.SdlFile.{SdlFile}
 use Rattle.eql_grammar.specs.declared.limits.TheConstants.{MAX_OPEN}

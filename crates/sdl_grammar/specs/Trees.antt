@@ -11,7 +11,6 @@ use Rattle.eql_grammar.specs.declared.grown.Qualified.{Qualified}
 use Rattle.sdl_ast.specs.declared.declaration.SdlFile.{SdlFile}
 use Rattle.sdl_ast.specs.declared.declaration.FilePart.{FilePart}
 use Rattle.sdl_ast.specs.declared.declaration.FilePart.TheVariants as part
-use Rattle.sdl_ast.specs.declared.declaration.Module.{Module}
 use Rattle.sdl_ast.specs.declared.declaration.Decl.{Decl}
 use Rattle.sdl_ast.specs.declared.declaration.Decl.TheVariants as decl
 use Rattle.sdl_ast.specs.declared.member.Member.{Member}
