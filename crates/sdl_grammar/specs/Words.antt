@@ -36,6 +36,7 @@ item_form t =
     (if is_word keyword.On t then item.On else
     (if is_word keyword.Annotation t then item.Annotation else item.Other))))))
 
+-- A name with what it means where a member begins.
 abbrev pub member_named : MemberForm → Option Name → Option MemberWord
 member_named form None = None
 member_named form (Some name) = Some (record { form = form; name = name })
@@ -44,6 +45,7 @@ member_named form (Some name) = Some (record { form = form; name = name })
 abbrev pub member_word_of : Token → Option MemberWord
 member_word_of t = member_named (member_form t) (name_of t)
 
+-- A name with what it means where an item begins.
 abbrev pub item_named : ItemForm → Option Name → Option ItemWord
 item_named form None = None
 item_named form (Some name) = Some (record { form = form; name = name })
