@@ -1,0 +1,10 @@
+pub mod Sets
+pub mod Alike
+pub mod ByWord
+pub mod FirstWords
+pub mod SameItems
+pub mod SameMembers
+pub mod Items
+pub mod Members
+pub mod Files
+pub mod Promise

@@ -1,0 +1,19 @@
+-- What is promised of the texts of schemas.
+use Rattle.std.specs.Prelude.{List}
+use Rattle.ev_lex.specs.declared.token.Token.{Token}
+use Rattle.sdl_ast.specs.declared.declaration.SdlFile.{SdlFile}
+use Rattle.eql_grammar.specs.declared.limits.TheConstants.{MAX_OPEN}
+use Rattle.eql_grammar.specs.Trees.{too_high}
+use Rattle.eql_grammar.specs.Grammar as queries
+use Rattle.sdl_grammar.specs.Grammar as g
+use Rattle.exact.specs.Language.{Lang}
+use Rattle.exact.specs.Promise.{Any, Spells}
+
+-- The tokens spell the schema, and the limits are kept at the first n tokens: in each expression inside at most `MAX_OPEN` parts
+-- are open, and what stands before one of these tokens is not too high. Parts and heights count from where an expression begins.
+abbrev pub SchemaText : Lang Token SdlFile
+SchemaText = Any (λ spare. g.File too_high (queries.within too_high spare MAX_OPEN).expr)
+
+-- The tokens spell the schema, and all limits are kept.
+abbrev pub IsSchema : List Token → SdlFile → Type 0
+IsSchema ts file = Spells SchemaText ts file

@@ -1,0 +1,10 @@
+use Rattle.std.proofs.Common.{◌≡◌, ◌-◌}
+use Rattle.sdl_grammar.specs.Words.{goes_on}
+use Rattle.eql_grammar.specs.Trees.{too_high}
+use Rattle.exact.specs.Reading.{chain_from}
+use Rattle.sdl_grammar.specs.Readers.{some_items, next_item, text_expr}
+use Rattle.sdl_parse.proofs.items.some_items.Given as goal
+
+abbrev pub invariant-loop-turn : goal.invariant-loop-turn
+invariant-loop-turn l =
+    some_items too_high text_expr l.fn.first l.fn.tokens ≡ chain_from goes_on (next_item too_high text_expr) (l._turn-end - l._turn) l.all l.tokens
