@@ -1,5 +1,6 @@
 pub mod Cores
 pub mod Exprs
+pub mod Formed
 pub mod Heights
 pub mod Levels
 pub mod Shapes

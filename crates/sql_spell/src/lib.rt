@@ -4,4 +4,4 @@
 
 mod laws;
 
-pub use laws::printed_tokens_spell;
+pub use laws::{printed_tokens_spell, well_formed_is_printable};

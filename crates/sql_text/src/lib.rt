@@ -6,5 +6,5 @@ mod reprint;
 #[cfg(test)]
 mod tests;
 
-pub use laws::printed_is_read_back;
+pub use laws::{printed_form_is_read_back, printed_is_read_back};
 pub use reprint::reprinted;
