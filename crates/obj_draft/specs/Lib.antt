@@ -1,0 +1,4 @@
+pub mod First
+pub mod Members
+pub mod Values
+pub mod Told
