@@ -12,3 +12,8 @@ ruled (Some b) due = Err (refusal.Rule b)
 -- The answer is this one, or memory ran out.
 abbrev pub IsAnswer : {A : Type 0} → Result A DataRefusal → Result A DataRefusal → Type 0
 IsAnswer result due = (result ≡ Err refusal.Memory) ⊎ (result ≡ due)
+
+-- the value, or the rule that fails
+abbrev pub told : {A : Type 0} → Result A Broken → Result A DataRefusal
+told (Ok due) = Ok due
+told (Err b) = Err (refusal.Rule b)

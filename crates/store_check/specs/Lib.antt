@@ -1,0 +1,3 @@
+pub mod Exclusive
+pub mod Holders
+pub mod Check
