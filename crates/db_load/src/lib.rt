@@ -1,0 +1,6 @@
+//! Loading data: a JSON text becomes a store.
+#![tactic(auto)]
+
+mod load;
+
+pub use load::load;
