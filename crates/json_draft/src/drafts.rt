@@ -18,7 +18,8 @@ fn integer_in(number: &Number) -> Plain
     }
 }
 
-fn plain_of(value: Value) -> Plain
+/// A value without parts; an array or an object is another.
+pub fn plain_of(value: Value) -> Plain
     ensures { result ≡ plain_of_data (view value) }
 {
     match value {

@@ -5,5 +5,6 @@ mod drafts;
 mod form;
 mod text;
 
+pub use drafts::plain_of;
 pub use form::document;
 pub use text::{TextError, value_of};

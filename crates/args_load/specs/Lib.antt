@@ -1,0 +1,4 @@
+pub mod Sections
+pub mod Values
+pub mod Load
+pub mod Views
