@@ -72,9 +72,12 @@ pub fn check(
     requires types { length schema.now.types < 2 ^ 32 }
     requires some { 0 < length schema.now.pointers }
     requires few { length schema.now.pointers < 2 ^ 32 }
-    requires objects { length drafts < 2 ^ 32 }
     ensures { IsAnswer result (told (checked schema.now drafts)) }
 {
+    // Objects are told by numbers of 32 bits; no memory holds more of them.
+    if drafts.len() > u32::MAX as usize {
+        return Err(DataRefusal::Memory);
+    }
     match check_heads(alloc, schema.types.as_slice(), drafts.as_slice()) {
         Ok(heads) => match orders(alloc, schema) {
             Ok(orders) => valued_objects(
