@@ -63,15 +63,15 @@ identified before (Some id) t = new (length before) id (place_of before id) t
 abbrev pub head : List TypeInfo → List Head → ObjectDraft → Result Head Broken
 head types before d = identified before (own_id d) (type_in types d.ty)
 
--- the ids and types of some objects after those of others, or the first failure
-mutual
-  abbrev pub heads_from : List TypeInfo → List Head → List ObjectDraft → Result (List Head) Broken
-  heads_from types before [] = Ok before
-  heads_from types before (d ∷ more) = heads_after types before more (head types before d)
+-- what follows an object that passes; a failure stays
+abbrev pub passing : Result Head Broken → (Head → Result (List Head) Broken) → Result (List Head) Broken
+passing (Ok h) next = next h
+passing (Err b) next = Err b
 
-  abbrev pub heads_after : List TypeInfo → List Head → List ObjectDraft → Result Head Broken → Result (List Head) Broken
-  heads_after types before more (Ok h) = heads_from types (before ++ h ∷ []) more
-  heads_after types before more (Err b) = Err b
+-- the ids and types of some objects after those of others, or the first failure
+abbrev pub heads_from : List TypeInfo → List Head → List ObjectDraft → Result (List Head) Broken
+heads_from types before [] = Ok before
+heads_from types before (d ∷ more) = passing (head types before d) (λ h. heads_from types (before ++ h ∷ []) more)
 
 -- the ids and types of all objects, or the first failure
 abbrev pub heads : List TypeInfo → List ObjectDraft → Result (List Head) Broken

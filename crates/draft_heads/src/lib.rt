@@ -3,6 +3,8 @@
 
 mod heads;
 mod identity;
+#[cfg(test)]
+mod tests;
 
 pub use heads::{Head, Heads};
 pub use identity::check_heads;

@@ -12,10 +12,6 @@ use Rattle.obj_draft.specs.declared.draft.Plain.TheVariants as plain
 use Rattle.obj_draft.specs.declared.refusal.Rule.{Rule}
 use Rattle.obj_draft.specs.declared.refusal.Rule.TheVariants as rule
 
-abbrev pub is_none : {A : Type 0} → Option A → Bool
-is_none None = true
-is_none (Some x) = false
-
 -- whether a pointer may have many values
 abbrev pub is_many : Card → Bool
 is_many card.Empty = false

@@ -1,5 +1,5 @@
 -- The rules on the targets of a link.
-use Rattle.std.specs.Prelude.{ℕ, ◌==◌, ◌&&◌, Bool, false, not, List, [], ◌∷◌, ◌++◌, codes, slice_get, Option, Some, None, option_map, if◌then◌else◌}
+use Rattle.std.specs.Prelude.{ℕ, ◌==◌, ◌&&◌, Bool, false, not, List, [], ◌∷◌, ◌++◌, codes, slice_get, Option, Some, None, is_none, option_map, if◌then◌else◌}
 use Rattle.std.specs.List.{list_any}
 use Rattle.std.specs.Str.{bytes_eq}
 use Rattle.core_ir.specs.declared.path.TypeId.{TypeId}
@@ -19,7 +19,7 @@ use Rattle.obj_draft.specs.declared.refusal.Rule.TheVariants as rule
 use Rattle.draft_heads.specs.Heads.{place_of}
 use Rattle.draft_heads.specs.declared.heads.Head.{Head}
 use Rattle.draft_values.specs.declared.flaw.Flaw.{Flaw}
-use Rattle.draft_values.specs.Elements.{is_none, is_null, is_lacking}
+use Rattle.draft_values.specs.Elements.{is_null, is_lacking}
 
 -- a rule that fails, where no other object is told
 abbrev pub alone : Rule → Flaw
@@ -68,13 +68,13 @@ abbrev pub is_of : List TypeInfo → TypeId → Option Head → Bool
 is_of types t None = false
 is_of types t (Some h) = is_subtype types h.ty t
 
+abbrev pub leads_to : List TypeInfo → List Head → TypeId → Option ℕ → Bool
+leads_to types heads t None = false
+leads_to types heads t (Some id) = is_of types t (head_at heads (place_of heads id))
+
 -- X10 fails where no object of the link's type has the id
 abbrev pub leads : List TypeInfo → List Head → TypeId → Element → Bool
-leads types heads t e = leads_to (target_id e)
-  where
-    leads_to : Option ℕ → Bool
-    leads_to None = false
-    leads_to (Some id) = is_of types t (head_at heads (place_of heads id))
+leads types heads t e = leads_to types heads t (target_id e)
 
 abbrev pub id_list : Option ℕ → List ℕ
 id_list None = []

@@ -1,5 +1,5 @@
 -- The rules on the values of a property.
-use Rattle.std.specs.Prelude.{Bool, not, List, [], ◌∷◌, ◌++◌, Option, Some, None}
+use Rattle.std.specs.Prelude.{Bool, not, List, [], ◌∷◌, ◌++◌, Option, Some, None, is_none}
 use Rattle.std.specs.List.{list_any}
 use Rattle.ev_value.specs.declared.value.ScalarTy.{ScalarTy}
 use Rattle.ev_value.specs.declared.value.Val.{Val}
@@ -11,7 +11,7 @@ use Rattle.obj_draft.specs.Values.{element_value}
 use Rattle.obj_draft.specs.declared.draft.Element.{Element}
 use Rattle.obj_draft.specs.declared.refusal.Rule.{Rule}
 use Rattle.obj_draft.specs.declared.refusal.Rule.TheVariants as rule
-use Rattle.draft_values.specs.Elements.{is_none, is_lacking}
+use Rattle.draft_values.specs.Elements.{is_lacking}
 
 abbrev pub value_in : Option Val → List Val
 value_in None = []

@@ -1,8 +1,7 @@
 //! The rules on the targets of a link.
-ghost use Rattle.std.specs.Prelude.{◌≡◌, ◌==◌, not, [], IfOk};
+ghost use Rattle.std.specs.Prelude.{◌≡◌, not, is_none, [], IfOk};
 ghost use Rattle.std.specs.List.{list_any};
 ghost use Rattle.std.specs.Option.{option_copied};
-ghost use Rattle.draft_values.specs.Elements.{is_none};
 ghost use Rattle.draft_values.specs.Links.{target_id as target_id_of, fields_of as fields_of_element, is_key_of as is_key, property_at as property_at_key, is_unknown as is_unknown_key, is_ill as is_ill_field, leads as leads_from, repeated, ids_of as ids_of_elements, link_flaw as link_flaw_of, alone as flaw_alone, target_flaw as target_flaw_of, repeat_flaw as repeat_flaw_in};
 ghost use Rattle.obj_draft.specs.Values.{plain_id as plain_id_of};
 
@@ -14,7 +13,7 @@ use ev_schema::{LinkProperty, PtrInfo, Schema};
 use ev_value::{List, Text};
 use obj_draft::{Element, Field, Plain, Rule, field, id_written, value_of};
 use std::alloc::{AllocError, Global};
-use std::collections::BTreeMap;
+use std::collections::BTreeSet;
 
 /// The uuid that a text without parts writes.
 fn plain_id(plain: &Plain) -> Option<u128>
@@ -206,11 +205,11 @@ fn ids_of(alloc: Global, elements: &[Element]) -> Result<List<u128>, AllocError>
 fn first_repeated(alloc: Global, ids: &[u128]) -> Result<Option<u128>, AllocError>
     ensures { IfOk result (λ r. r ≡ repeated [] ids.now) }
 {
-    let mut seen = BTreeMap::new(alloc);
+    let mut seen = BTreeSet::new(alloc);
     for id in ids {
-        match seen.insert(*id, ()) {
-            Ok(Some(())) => return Ok(Some(*id)),
-            Ok(None) => {}
+        match seen.insert(*id) {
+            Ok(true) => {}
+            Ok(false) => return Ok(Some(*id)),
             Err(_) => return Err(AllocError),
         }
     }

@@ -1,1 +1,4 @@
-pub mod KeyLaws
+mod Notes
+mod HeadTurns
+mod ObjectTurns
+mod Ruled

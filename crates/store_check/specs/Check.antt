@@ -1,10 +1,9 @@
 -- The store of some drafts, or the first rule that fails.
-use Rattle.std.specs.Prelude.{ℕ, zero, suc, List, [], ◌∷◌, ◌++◌, length, Option, Some, None, slice_get, Result, Ok, Err, option_map}
+use Rattle.std.specs.Prelude.{ℕ, zero, suc, List, [], ◌∷◌, ◌++◌, length, Option, Some, None, slice_get, Result, Ok, Err}
 use Rattle.ev_value.specs.declared.value.Val.TheVariants as made
 use Rattle.ev_list.specs.Order.{in_order, keyless}
 use Rattle.ev_list.specs.declared.order.Keyed.{Keyed}
 use Rattle.core_ir.specs.declared.path.PtrId.{PtrId}
-use Rattle.core_ir.specs.declared.path.TypeId.{TypeId}
 use Rattle.ev_schema.specs.Policies.{by_name}
 use Rattle.ev_schema.specs.declared.schema.Schema.{Schema}
 use Rattle.obj_store.specs.declared.object.Object.{Object}

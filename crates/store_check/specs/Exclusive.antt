@@ -1,5 +1,5 @@
 -- The rule on exclusive values (X13).
-use Rattle.std.specs.Prelude.{◌≡◌, ℕ, zero, suc, ◌==◌, ◌&&◌, nat_lt, Bool, false, List, [], ◌∷◌, ◌++◌, Option, Some, None, slice_get, if◌then◌else◌}
+use Rattle.std.specs.Prelude.{ℕ, suc, ◌==◌, ◌&&◌, nat_lt, Bool, false, List, [], ◌∷◌, Option, Some, None, slice_get, if◌then◌else◌}
 use Rattle.std.specs.List.{list_any}
 use Rattle.ev_value.specs.declared.value.Val.{Val}
 use Rattle.core_ir.specs.declared.path.PtrId.{PtrId}
@@ -54,7 +54,7 @@ module _ (infos : List PtrInfo) where
   exclusive_items o p = if is_exclusive_pointer infos p then items_at o p else []
 
   -- who holds what once an object has its values for some pointers too
-  abbrev pub held_after : Holding → ℕ → Object → List PtrId → List Held
+  abbrev pub held_after : Holding → ℕ → Object → List PtrId → Holding
   held_after held n o [] = held
   held_after held n o (p ∷ more) = held_after (held_with held n p (exclusive_items o p)) n o more
 

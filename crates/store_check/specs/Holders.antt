@@ -1,11 +1,8 @@
 -- A map from pointers and values to the objects that hold them.
-use Rattle.std.specs.Prelude.{◌≡◌, ℕ, Option}
 use Rattle.std.specs.Ordering.{nat_cmp, on, then_cmp}
 use Rattle.std.specs.declared.cmp.Ordering.{Ordering}
 use Rattle.std.specs.BTreeMap as tree
 use Rattle.ev_value.specs.Order.{val_cmp}
-use Rattle.ev_value.specs.declared.value.Val.{Val}
-use Rattle.core_ir.specs.declared.path.PtrId.{PtrId}
 use Rattle.store_check.specs.Exclusive.{Holding}
 use Rattle.store_check.specs.declared.holders.Holders.{Holders}
 use Rattle.store_check.specs.declared.holders.Key.{Key}

@@ -1,3 +1,4 @@
 pub mod Exclusive
 pub mod Holders
+pub mod KeyLaws
 pub mod Check

@@ -141,9 +141,8 @@ fn clash(
 {
     for pointer in listed {
         let items = exclusive_items(alloc, infos, object, *pointer)?;
-        let other = repeated(alloc, holders, number, *pointer, items.as_slice())?;
-        if other.is_some() {
-            return Ok(other);
+        if let Some(other) = repeated(alloc, holders, number, *pointer, items.as_slice())? {
+            return Ok(Some(other));
         }
     }
     Ok(None)

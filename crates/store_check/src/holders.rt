@@ -1,7 +1,10 @@
 //! Which object holds a value of an exclusive pointer.
-ghost use Rattle.std.specs.Prelude.{◌≡◌, IfOk, OnOk};
+ghost use Rattle.std.specs.Prelude.{◌≡◌, Some, refl, IfOk, OnOk};
+ghost use Rattle.std.specs.Cmp.{partial_equiv_from_equiv, partial_order_from_total, eq_by_cmp_equiv};
+ghost use Rattle.std.specs.Ordering.{is_eq};
 ghost use Rattle.store_check.specs.Exclusive.{nobody, held_too};
-ghost use Rattle.store_check.specs.Holders.{held_by};
+ghost use Rattle.store_check.specs.Holders.{held_by, key_cmp};
+ghost use Rattle.store_check.specs.KeyLaws.{key_total};
 
 use core_ir::PtrId;
 use ev_value::{Val, cmp_val};
@@ -17,23 +20,50 @@ pub struct Key {
 }
 
 impl PartialEq for Key {
-    ghost use Rattle.std.specs.Ordering.{eq_by_cmp};
-    ghost use Rattle.store_check.specs.Holders.{key_cmp};
-    ghost use Rattle.store_check.proofs.KeyLaws.{key_equivalence};
+    ghost eq = { λ j k. is_eq (key_cmp j k) };
 
-    ghost eq = { eq_by_cmp key_cmp };
-
-    ghost laws = { key_equivalence };
+    ghost laws = { partial_equiv_from_equiv (eq_by_cmp_equiv key_total) };
 
     fn eq(&self, other: &Key) -> bool {
-        self.cmp(other) == Ordering::Equal
+        compare(self, other).is_eq()
     }
 }
 
 impl Eq for Key {
-    ghost use Rattle.store_check.proofs.KeyLaws.{key_equivalence_total};
+    ghost laws = { eq_by_cmp_equiv key_total };
+}
 
-    ghost laws = { key_equivalence_total };
+impl PartialOrd for Key {
+    ghost partial_cmp = { λ j k. Some (key_cmp j k) };
+
+    ghost laws = { partial_order_from_total key_total };
+
+    fn partial_cmp(&self, other: &Key) -> Option<Ordering> {
+        Some(compare(self, other))
+    }
+}
+
+impl Ord for Key {
+    ghost cmp = { key_cmp };
+
+    ghost total = { key_total };
+
+    ghost matches_partial_cmp = { λ j k. refl };
+
+    ghost matches_eq = { λ j k. refl };
+
+    fn cmp(&self, other: &Key) -> Ordering {
+        compare(self, other)
+    }
+}
+
+/// By pointer, and of one pointer by value.
+fn compare(left: &Key, right: &Key) -> Ordering
+    ensures { result ≡ key_cmp left.now right.now }
+{
+    left.pointer
+        .cmp(&right.pointer)
+        .then(cmp_val(&left.value, &right.value))
 }
 
 /// The objects that hold values of exclusive pointers, each by its number.
@@ -65,12 +95,12 @@ impl Holders {
             pointer: pointer.0,
             value,
         };
-        if let Some(other) = self.map.get(&key) {
-            return Ok(Some(*other));
-        }
-        match self.map.insert(key, object) {
-            Ok(_) => Ok(None),
-            Err(_) => Err(AllocError),
+        match self.map.get(&key) {
+            Some(other) => Ok(Some(*other)),
+            None => {
+                self.map.insert(key, object)?;
+                Ok(None)
+            }
         }
     }
 }

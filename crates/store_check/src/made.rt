@@ -8,7 +8,7 @@ use crate::store::Store;
 use core_ir::{PtrId, TypeId};
 use draft_heads::{Head, Heads};
 use draft_values::{Flaw, object_flaw, object_of, pointers_in_order};
-use ev_list::{Absent, Direction, KeyOrder, Keyed, in_order, keyless};
+use ev_list::{Absent, Direction, KeyOrder, Keyed, backward, in_order, keyless};
 use ev_schema::Schema;
 use ev_value::{List, Val};
 use obj_draft::{Broken, DataRefusal, ObjectDraft};
@@ -104,8 +104,9 @@ fn keyed(alloc: Global, object: Object) -> Result<Keyed<Object>, AllocError>
 fn keyed_objects(alloc: Global, objects: List<Object>) -> Result<List<Keyed<Object>>, AllocError>
     ensures { IfOk result (λ l. l ≡ keyed_objects_of objects) }
 {
+    let mut left = backward(alloc, objects)?;
     let mut all = List::new(alloc);
-    for object in objects.into_vec() {
+    while let Some(object) = left.pop() {
         all.push(keyed(alloc, object)?)?;
     }
     Ok(all)
