@@ -77,7 +77,10 @@ fn the_rule_at_the_least_name_is_told(rt: HostRuntime) -> Result<(), Fail> {
     let alloc = rt.alloc();
     assert_eq!(rt; told(alloc, "name", one(Plain::Null))?, Some(Rule::X8));
     assert_eq!(rt; told(alloc, "name", one(Plain::Int(1)))?, Some(Rule::X7));
-    assert_eq!(rt; told(alloc, "name", Draft::Array(List::new(alloc)))?, Some(Rule::X9));
+    assert_eq!(rt;
+        told(alloc, "name", Draft::Array(List::new(alloc)))?,
+        Some(Rule::X9)
+    );
     assert_eq!(rt; told(alloc, "mane", one(Plain::Null))?, Some(Rule::X6));
     assert_eq!(rt; told(alloc, "size", one(Plain::Null))?, Some(Rule::X8));
     Ok(())
