@@ -1,5 +1,5 @@
 -- An object that passes has a new id.
-use Rattle.std.proofs.Common.{◌≡◌, ℕ, List, length, Option, Some, None, Result, Ok, Err, refl, sym, ap, ◌∙◌}
+use Rattle.std.proofs.Common.{◌≡◌, ℕ, List, length, Option, Some, None, Result, Ok, refl, sym, ap, ◌∙◌}
 use Rattle.core_ir.specs.declared.path.TypeId.{TypeId}
 use Rattle.ev_schema.specs.declared.types.TypeInfo.{TypeInfo}
 use Rattle.obj_draft.specs.declared.draft.ObjectDraft.{ObjectDraft}

@@ -55,8 +55,17 @@ fn the_first_rule_that_fails_is_told(rt: HostRuntime) -> Result<(), Fail> {
     let one = "00000000-0000-0000-0000-000000000001";
     let two = "00000000-0000-0000-0000-000000000002";
     assert_eq!(rt; told(rt.alloc(), one, two, "User")?, None);
-    assert_eq!(rt; told(rt.alloc(), one, "two", "None")?, at_second(Rule::X3, None));
-    assert_eq!(rt; told(rt.alloc(), one, one, "None")?, at_second(Rule::X4, Some(0)));
-    assert_eq!(rt; told(rt.alloc(), one, two, "None")?, at_second(Rule::X5, None));
+    assert_eq!(rt;
+        told(rt.alloc(), one, "two", "None")?,
+        at_second(Rule::X3, None)
+    );
+    assert_eq!(rt;
+        told(rt.alloc(), one, one, "None")?,
+        at_second(Rule::X4, Some(0))
+    );
+    assert_eq!(rt;
+        told(rt.alloc(), one, two, "None")?,
+        at_second(Rule::X5, None)
+    );
     Ok(())
 }

@@ -1,5 +1,5 @@
 -- The object that a draft writes.
-use Rattle.std.specs.Prelude.{ℕ, Bool, true, false, List, [], ◌∷◌, ◌++◌, map, Option, Some, None, slice_get, if◌then◌else◌}
+use Rattle.std.specs.Prelude.{ℕ, List, [], ◌∷◌, ◌++◌, map, Option, Some, None, slice_get, if◌then◌else◌}
 use Rattle.ev_value.specs.declared.value.Val.TheVariants as made
 use Rattle.ev_list.specs.Order.{in_order, keyless}
 use Rattle.ev_list.specs.declared.order.Keyed.{Keyed}
@@ -22,7 +22,6 @@ use Rattle.obj_store.specs.declared.object.PtrValue.TheVariants as value
 use Rattle.obj_store.specs.declared.object.Target.{Target}
 use Rattle.obj_draft.specs.Members.{member}
 use Rattle.obj_draft.specs.Values.{value_of}
-use Rattle.obj_draft.specs.declared.draft.Draft.{Draft}
 use Rattle.obj_draft.specs.declared.draft.Element.{Element}
 use Rattle.obj_draft.specs.declared.draft.Field.{Field}
 use Rattle.obj_draft.specs.declared.draft.Member.{Member}

@@ -16,7 +16,6 @@ use Rattle.obj_draft.specs.First.{or_else}
 use Rattle.obj_draft.specs.Members.{member}
 use Rattle.obj_draft.specs.declared.draft.Draft.{Draft}
 use Rattle.obj_draft.specs.declared.draft.Member.{Member}
-use Rattle.obj_draft.specs.declared.refusal.Rule.{Rule}
 use Rattle.obj_draft.specs.declared.refusal.Rule.TheVariants as rule
 use Rattle.draft_heads.specs.declared.heads.Head.{Head}
 use Rattle.draft_values.specs.declared.flaw.Flaw.{Flaw}

@@ -9,6 +9,8 @@ mod names;
 mod object;
 mod order;
 mod properties;
+#[cfg(test)]
+mod tests;
 
 pub use flaw::Flaw;
 pub use limits::meets;

@@ -1,4 +1,4 @@
-use Rattle.std.proofs.Common.{subst, sym, ap, ◌∙◌, cond, is_eq, nat_cmp, Some, length}
+use Rattle.std.proofs.Common.{subst, sym, ap, ◌∙◌, cond, is_eq, nat_cmp, Some}
 use Rattle.std.specs.BTreeMap as tree
 use Rattle.draft_heads.specs.Heads.{Finds, place_of}
 use Rattle.draft_heads.proofs.PlaceLaws.{finds_more}
