@@ -2,3 +2,9 @@ mod Notes
 mod HeadTurns
 mod ObjectTurns
 mod Ruled
+mod IdOrder
+mod HeadIds
+mod Repeats
+mod Clashes
+mod Listed
+mod StoreLaws

@@ -2,3 +2,4 @@ pub mod Exclusive
 pub mod Holders
 pub mod KeyLaws
 pub mod Check
+pub mod Laws

@@ -4,8 +4,10 @@
 mod checking;
 mod exclusive;
 mod holders;
+mod laws;
 mod made;
 mod store;
 
 pub use checking::check;
+pub use laws::{exclusive_values_stand_once, stores_stand_in_order};
 pub use store::Store;
