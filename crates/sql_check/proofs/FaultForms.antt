@@ -24,8 +24,10 @@ use Rattle.sql_ast.specs.declared.select.Select.{Select}
 use Rattle.sql_ast.specs.declared.ty.SqlTy.{SqlTy}
 use Rattle.sql_ast.specs.WellFormed.{Name}
 use Rattle.sql_grammar.specs.declared.grown.Places.{Places}
+use Rattle.sql_check.specs.SortFrames.{with_known}
+use Rattle.sql_check.specs.declared.sort.Known.{Known}
 use Rattle.sql_check.specs.declared.judge.Place.TheVariants as place
-use Rattle.sql_check.specs.TypeLists.{of_place, truth, number, takes, known_of, within_items, sorts_of_cores, types_in_exprs, types_in_column_list, types_in_item_list, types_in_key_list, types_in_place, types_in_held, types_in_parts, types_in_case}
+use Rattle.sql_check.specs.TypeLists.{of_place, truth, number, takes, known_of, within_items, sorts_of_cores, types_in_exprs, types_in_column_list, types_in_item_list, types_in_key_list, types_in_place, types_in_held, types_in_rows, types_in_parts, types_in_case}
 use Rattle.sql_check.specs.Types.{Sorts, failing, wanted, is_of, is_scalar, is_array, all_types, alike, unless_alike, core_sorts, within, verdict, types_in, types_in_all, types_in_cores, types_in_further, types_in_core, types_in_columns, types_in_items, types_in_item, types_in_keys, types_in_key, types_in_option, types_in_further_list, types_in_list}
 use Rattle.sql_check.specs.Walk.{start, inner, rest}
 use Rattle.sql_check.proofs.PartPlaces.{items_at, condition_at, keys_at, offset_at, limit_at}
@@ -195,3 +197,21 @@ none_added all xs h = sym (ap (λ l. all ++ l) h ∙ append_nil all)
 pub all_added : {T E : Type 0} (r : Result T E) (all one two new is cs rs xs : List ℕ) → one ≡ all ++ is → two ≡ one ++ cs → OnOk r (new ≡ two ++ rs) → xs ≡ is ++ (cs ++ rs) → OnOk r (new ≡ all ++ xs)
 all_added r all one two new is cs rs xs e f h x =
     subst (λ l. OnOk r (new ≡ l)) (ap (λ l. l ++ rs) (f ∙ ap (λ l. l ++ cs) e) ∙ append_assoc (all ++ is) cs rs ∙ append_assoc all is (cs ++ rs) ∙ sym (ap (λ l. all ++ l) x)) h
+
+-- the parts of a core: its items, then its columns and what stands behind them, in the scope of the items
+pub core_faults : {T E : Type 0} (catalog : Catalog) (params : List Param) (d : Sorts) (ps : List Places) (r : Result T E) (all one two new : List ℕ)
+    (core : Core) (columns cols : List Column) (body : Body) (items : List FromItem) (known ks ls : List Known) (inside behind after : List Places)
+    → one ≡ all ++ types_in_item_list catalog params items behind d
+    → with_known known d ≡ within_items catalog params items d
+    → two ≡ one ++ types_in_column_list catalog params cols inside (with_known ks d)
+    → OnOk r (new ≡ two ++ types_in_rows catalog params body after (with_known ls d) d)
+    → types_in_core catalog params core ps d ≡ types_in_parts catalog params columns body (inner ps) d
+    → items ≡ body.from → cols ≡ columns → ks ≡ known → ls ≡ known → inside ≡ inner ps
+    → behind ≡ drop (length columns) (inner ps) → after ≡ drop (length body.from) (drop (length columns) (inner ps))
+    → OnOk r (new ≡ all ++ types_in_core catalog params core ps d)
+core_faults catalog params d ps r all one two new core columns cols body items known ks ls inside behind after f w g h x it co k l n b a =
+    let scope : with_known known d ≡ within_items catalog params body.from d = w ∙ ap (λ z. within_items catalog params z d) it in
+    let first : with_known ks d ≡ within_items catalog params body.from d = ap (λ z. with_known z d) k ∙ scope in
+    let second : with_known ls d ≡ within_items catalog params body.from d = ap (λ z. with_known z d) l ∙ scope in
+    all_added r all one two new _ _ _ _ f g h
+    (x ∙ sym (λ i. types_in_item_list catalog params (it i) (b i) d ++ (types_in_column_list catalog params (co i) (n i) (first i) ++ types_in_rows catalog params body (a i) (second i) d)))

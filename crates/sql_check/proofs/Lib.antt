@@ -6,3 +6,4 @@ pub mod TyForms
 pub mod ScopeForms
 pub mod TypeForms
 pub mod FaultForms
+pub mod Behind

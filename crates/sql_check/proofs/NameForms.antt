@@ -25,7 +25,7 @@ use Rattle.sql_ast.specs.declared.select.FromItem.TheVariants as from
 use Rattle.sql_ast.specs.declared.select.Select.{Select}
 use Rattle.sql_ast.specs.WellFormed.{Name, alias_of, columns_under, type_under}
 use Rattle.sql_check.specs.Names.{Scope, with_items, gives_column, core_gives, select_gives, has_column, is_column, is_among, is_listed, is_there, has_alias, unless, inside, names_in, names_in_all, names_in_cores, names_in_core, names_in_columns, names_in_items, names_in_item, names_in_keys, names_in_key, names_in_option, names_in_list}
-use Rattle.sql_check.specs.NameLists.{column_names, first_gives, newest, is_column_of, names_in_exprs, names_in_column_list, names_in_item_list, names_in_key_list, names_in_held, names_in_parts}
+use Rattle.sql_check.specs.NameLists.{column_names, first_gives, newest, is_column_of, names_in_exprs, names_in_column_list, names_in_item_list, names_in_key_list, names_in_held, names_in_body, names_in_parts}
 use Rattle.sql_check.specs.declared.scope.Frames.{Frames}
 use Rattle.sql_check.specs.declared.scope.Frames.TheVariants as frames
 use Rattle.sql_check.specs.Frames.{entries}
@@ -253,5 +253,15 @@ pub frame_items : (outer : Bor Frames) (items : Bor (List FromItem)) → entries
 unfolding entries carrier.hidden
 frame_items outer items = refl
 
-pub core_names : {T E : Type 0} (r : Result T E) (all first new cs bs xs : List ℕ) → first ≡ all ++ cs → OnOk r (new ≡ first ++ bs) → xs ≡ cs ++ bs → OnOk r (new ≡ all ++ xs)
-core_names r all first new cs bs xs e h x = subst (λ l. OnOk r (new ≡ l)) (ap (λ l. l ++ bs) e ∙ append_assoc all cs bs ∙ sym (ap (λ l. all ++ l) x)) h
+-- the parts of a core: its columns, in the scope of the items, and what stands behind them
+pub core_names : {T E : Type 0} (catalog : Catalog) (d : Scope) (ps : List Places) (r : Result T E) (all one new : List ℕ)
+    (core : Core) (columns cols : List Column) (body : Body) (inside behind : List Places)
+    → one ≡ all ++ names_in_column_list catalog cols [] inside (with_items body.from d)
+    → OnOk r (new ≡ one ++ names_in_body catalog body behind d)
+    → names_in_core catalog core ps d ≡ names_in_parts catalog columns body ps d
+    → cols ≡ columns → inside ≡ inner ps → behind ≡ drop (length columns) (inner ps)
+    → OnOk r (new ≡ all ++ names_in_core catalog core ps d)
+core_names catalog d ps r all one new core columns cols body inside behind e h x c n b =
+    let parts : names_in_column_list catalog cols [] inside (with_items body.from d) ++ names_in_body catalog body behind d ≡ names_in_core catalog core ps d =
+        (λ i. names_in_column_list catalog (c i) [] (n i) (with_items body.from d) ++ names_in_body catalog body (b i) d) ∙ sym x in
+    subst (λ l. OnOk r (new ≡ l)) (ap (λ l. l ++ names_in_body catalog body behind d) e ∙ append_assoc all _ _ ∙ ap (λ l. all ++ l) parts) h

@@ -1,13 +1,16 @@
 -- The scope of columns, at the code's constructors.
 use Rattle.std.proofs.Common.{◌≡◌, Bool, true, false, List, [], ◌∷◌, ◌++◌, Option, Some, None, if◌then◌else◌, refl, ap, sym, ◌∙◌}
 use Rattle.std.specs.Str.{bytes_eq}
+use Rattle.ev_list.specs.declared.param.Param.{Param}
+use Rattle.sql_ast.specs.declared.catalog.Catalog.{Catalog}
+use Rattle.sql_ast.specs.declared.select.FromItem.{FromItem}
 use Rattle.sql_ast.specs.declared.ty.SqlTy.{SqlTy}
 use Rattle.sql_ast.specs.WellFormed.{Name}
 use Rattle.sql_check.specs.declared.sort.Known.{Known}
 use Rattle.sql_check.specs.declared.sort.SortFrames.{SortFrames}
 use Rattle.sql_check.specs.declared.sort.SortFrames.TheVariants as frames
 use Rattle.sql_check.specs.SortFrames.{sorts, with_known}
-use Rattle.sql_check.specs.TypeLists.{newest_known, column_type_of}
+use Rattle.sql_check.specs.TypeLists.{newest_known, column_type_of, known_of, within_items}
 use Rattle.sql_check.specs.Types.{Sorts, column_type, sort_under}
 use denote.Ref.{Bor}
 use denote.Hole.Carrier as carrier
@@ -24,6 +27,16 @@ frame_known outer known = refl
 pub known_push : (ks : List Known) (k : Known) (d : Sorts) → with_known (ks ++ k ∷ []) d ≡ k ∷ with_known ks d
 known_push [] k d = refl
 known_push (first ∷ more) k d = known_push more k (first ∷ d)
+
+-- what an item gives behind those before it
+pub known_more : (catalog : Catalog) (params : List Param) (items rest : List FromItem) (item : FromItem) (known ks new : List Known) (entry : Known) (d all : Sorts)
+    → items ≡ item ∷ rest → within_items catalog params items (with_known known d) ≡ all
+    → ks ≡ known → entry ≡ known_of catalog params item (with_known ks d) → new ≡ known ++ entry ∷ []
+    → within_items catalog params rest (with_known new d) ≡ all
+known_more catalog params items rest item known ks new entry d all here h k e n =
+    let given : with_known new d ≡ known_of catalog params item (with_known known d) ∷ with_known known d =
+        ap (λ l. with_known l d) n ∙ known_push known entry d ∙ ap (λ x. x ∷ with_known known d) (e ∙ ap (λ l. known_of catalog params item (with_known l d)) k) in
+    ap (λ w. within_items catalog params rest w) given ∙ sym (ap (λ l. within_items catalog params l (with_known known d)) here) ∙ h
 
 module _ (alias name : Name) where
   with_newer : (b : Bool) (k : Known) (found : Option Known) (d : Sorts) → column_type_of alias name (if b then Some k else found) d ≡ (if b then sort_under name k.columns else column_type_of alias name found d)

@@ -73,14 +73,13 @@ both_true : (a b : Bool) → a ≡ true → b ≡ true → (a && b) ≡ true
 both_true a b e f = rw (e, f) refl
 
 mutual
-  same_itself : (t : SqlTy) → same_type t t ≡ true
   unfolding same_type
+  same_itself : (t : SqlTy) → same_type t t ≡ true
   same_itself (d.Scalar s) = scalar_itself s
   same_itself (d.Row' _ row) = row_itself row
   same_itself (d.Array' _ (d.more_of-SqlTy t d.end_of-SqlTy)) = same_itself t
 
   row_itself : {m : _} (row : d.Row_of-SqlTy m) → same_types row row ≡ true
-  unfolding same_type
   row_itself d.end_of-SqlTy = refl
   row_itself (d.more_of-SqlTy t row) = both_true (same_type t t) (same_types row row) (same_itself t) (row_itself row)
 

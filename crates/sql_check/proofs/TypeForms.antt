@@ -1,5 +1,5 @@
 -- What is said of each form, and what each gives, at the code's constructors.
-use Rattle.std.proofs.Common.{◌≡◌, ◌∙◌, ℕ, ℤ, Bool, List, [], ◌∷◌, ◌++◌, Option, Some, None, refl, ap, sym}
+use Rattle.std.proofs.Common.{◌≡◌, ◌∙◌, ℕ, ℤ, Bool, List, [], ◌∷◌, ◌++◌, Option, Some, None, Result, IfOk, subst, refl, ap, sym}
 use Rattle.ev_value.specs.declared.value.ScalarTy.TheVariants as scalar
 use Rattle.ev_list.specs.declared.param.Param.{Param}
 use Rattle.sql_ast.specs.declared.catalog.Catalog.{Catalog}
@@ -21,7 +21,9 @@ use Rattle.sql_ast.specs.declared.ty.SqlTy.{SqlTy}
 use Rattle.sql_ast.specs.Params.{type_of_param}
 use Rattle.sql_ast.specs.Types.{INT, TEXT, BOOL, UUID}
 use Rattle.sql_ast.specs.WellFormed.{Name, type_under, columns_under}
+use Rattle.sql_check.specs.declared.sort.Known.{Known}
 use Rattle.sql_check.specs.declared.sort.Sort.{Sort}
+use Rattle.sql_check.specs.SortFrames.{with_known}
 use Rattle.sql_check.specs.declared.verdict.Verdict.{Verdict}
 use Rattle.sql_check.specs.declared.verdict.Verdict.TheVariants.{Has}
 use Rattle.sql_check.specs.Types.{Sorts, known, column_type, arg_verdict, array_verdict, row_verdict, all_types, with_first, type_in, table_sorts, element_sort, element_in, verdict, verdicts, select_sorts, core_sorts, column_sorts, within, item_sorts}
@@ -138,3 +140,14 @@ module _ (catalog : Catalog) (params : List Param) (d : Sorts) where
   pub row_is : (es : List SqlExpr) → verdict catalog params (expr.Row es) d ≡ row_verdict (verdicts_of catalog params es d)
   unfolding verdict
   row_is es = ap (λ ts. row_verdict ts) (exprs_hidden catalog params es d)
+
+-- ---- the columns of a core
+
+pub core_given : {E : Type 0} (catalog : Catalog) (params : List Param) (d : Sorts) (r : Result (List Sort) E) (cols columns : List Column) (ks known : List Known) (items : List FromItem) (body : Body) (core : Core)
+    → IfOk r (λ s. s ≡ sorts_of_columns catalog params cols (with_known ks d)) → with_known known d ≡ within_items catalog params items d
+    → core_sorts catalog params core d ≡ sorts_of_columns catalog params columns (within_items catalog params body.from d)
+    → cols ≡ columns → ks ≡ known → items ≡ body.from → IfOk r (λ s. s ≡ core_sorts catalog params core d)
+core_given catalog params d r cols columns ks known items body core h w x c k f =
+    let inside : with_known ks d ≡ within_items catalog params body.from d = ap (λ l. with_known l d) k ∙ w ∙ ap (λ l. within_items catalog params l d) f in
+    let same : sorts_of_columns catalog params cols (with_known ks d) ≡ core_sorts catalog params core d = (λ i. sorts_of_columns catalog params (c i) (inside i)) ∙ sym x in
+    subst (λ (l : List Sort). IfOk r (λ s. s ≡ l)) same h

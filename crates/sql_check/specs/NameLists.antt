@@ -70,17 +70,17 @@ module _ (catalog : Catalog) where
   abbrev pub names_in_bounds : Body → List Places → Scope → List ℕ
   names_in_bounds body ps d = names_in_held body.offset ps d ++ names_in_held body.limit (beyond_option body.offset ps) d
 
-  -- of the keys, with the scope inside, and what stands behind them
-  abbrev pub names_in_order : Body → List Places → Scope → List ℕ
-  names_in_order body ps d = names_in_key_list body.keys ps (with_items body.from d) ++ names_in_bounds body (drop (length body.keys) ps) d
+  -- of the keys, in the scope inside, and what stands behind them
+  abbrev pub names_in_order : Body → List Places → Scope → Scope → List ℕ
+  names_in_order body ps within d = names_in_key_list body.keys ps within ++ names_in_bounds body (drop (length body.keys) ps) d
 
-  -- of the condition, and what stands behind it
-  abbrev pub names_in_rows : Body → List Places → Scope → List ℕ
-  names_in_rows body ps d = names_in_held body.condition ps (with_items body.from d) ++ names_in_order body (beyond_option body.condition ps) d
+  -- of the condition, in the scope inside, and what stands behind it
+  abbrev pub names_in_rows : Body → List Places → Scope → Scope → List ℕ
+  names_in_rows body ps within d = names_in_held body.condition ps within ++ names_in_order body (beyond_option body.condition ps) within d
 
   -- of what stands behind the columns
   abbrev pub names_in_body : Body → List Places → Scope → List ℕ
-  names_in_body body ps d = names_in_item_list body.from [] ps d ++ names_in_rows body (drop (length body.from) ps) d
+  names_in_body body ps d = names_in_item_list body.from [] ps d ++ names_in_rows body (drop (length body.from) ps) (with_items body.from d) d
 
   -- of a core with these columns and what stands behind them
   abbrev pub names_in_parts : List Column → Body → List Places → Scope → List ℕ

@@ -400,6 +400,7 @@ pub fn row(parts: Option<List<SqlTy>>) -> Verdict
 }
 
 /// The types of columns, where each has one.
+#[tactic(auto, using(crate::proofs::Behind::behind_none, crate::proofs::Behind::behind_more, crate::proofs::Behind::behind_all))]
 fn types_of(alloc: Global, columns: &[Sort]) -> Result<Option<List<SqlTy>>, AllocError>
     ensures { IfOk result (λ ts. ts ≡ types.all_types columns.now) }
 {

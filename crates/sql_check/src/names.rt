@@ -140,7 +140,6 @@ impl<'a> Names<'a> {
     }
 
     #[cycle(names)]
-    #[tactic(auto, using(crate::proofs::NameForms::of_all, crate::proofs::NameForms::of_distinct))]
     fn core(
         &self,
         core: &Core,
@@ -162,7 +161,7 @@ impl<'a> Names<'a> {
         }
     }
 
-    /// The columns of a core see the aliases of its items, and no name stands twice among them.
+    /// The columns of a core see the aliases of its items.
     #[cycle(names)]
     #[tactic(auto, using(crate::proofs::NameForms::frame_items))]
     fn columns(
@@ -176,9 +175,23 @@ impl<'a> Names<'a> {
         ensures { OnOk result (found.new ≡ found.old ++ lists.names_in_column_list self.now.catalog.now columns.now [] places.now (names.with_items body.now.from (entries scope.now))) }
     {
         let inside = Frames::Items(&*scope, body.from.as_slice());
+        self.column_list(columns, places, &inside, found)
+    }
+
+    /// No name stands twice among columns.
+    #[cycle(names)]
+    fn column_list(
+        &self,
+        columns: &[Column],
+        places: &[Places],
+        scope: &Frames<'_>,
+        found: &mut List<u32>,
+    ) -> Result<(), AllocError>
+        ensures { OnOk result (found.new ≡ found.old ++ lists.names_in_column_list self.now.catalog.now columns.now [] places.now (entries scope.now)) }
+    {
         let mut left = places;
         for (i, column) in columns.iter().enumerate() {
-            self.column(column, &columns[..i], left, &inside, found)?;
+            self.column(column, &columns[..i], left, scope, found)?;
             left = rest(left);
         }
         Ok(())
@@ -214,7 +227,7 @@ impl<'a> Names<'a> {
         self.rows(body, beyond(body.from.len(), places), scope, found)
     }
 
-    /// The condition, and what stands behind it.
+    /// The condition, and what stands behind it; the condition and the keys see the aliases of the items.
     #[cycle(names)]
     #[tactic(auto, using(crate::proofs::NameForms::frame_items))]
     fn rows(
@@ -224,32 +237,45 @@ impl<'a> Names<'a> {
         scope: &Frames<'_>,
         found: &mut List<u32>,
     ) -> Result<(), AllocError>
-        ensures { OnOk result (found.new ≡ found.old ++ lists.names_in_rows self.now.catalog.now body.now places.now (entries scope.now)) }
+        ensures { OnOk result (found.new ≡ found.old ++ lists.names_in_rows self.now.catalog.now body.now places.now (names.with_items body.now.from (entries scope.now)) (entries scope.now)) }
     {
         let inside = Frames::Items(&*scope, body.from.as_slice());
+        self.condition(body, places, &inside, scope, found)
+    }
+
+    #[cycle(names)]
+    fn condition(
+        &self,
+        body: &Body,
+        places: &[Places],
+        inside: &Frames<'_>,
+        scope: &Frames<'_>,
+        found: &mut List<u32>,
+    ) -> Result<(), AllocError>
+        ensures { OnOk result (found.new ≡ found.old ++ lists.names_in_rows self.now.catalog.now body.now places.now (entries inside.now) (entries scope.now)) }
+    {
         match &body.condition {
             Some(condition) => {
-                self.expr(condition.get(), places, &inside, found)?;
-                self.order(body, rest(places), scope, found)
+                self.expr(condition.get(), places, inside, found)?;
+                self.order(body, rest(places), inside, scope, found)
             }
-            None => self.order(body, places, scope, found),
+            None => self.order(body, places, inside, scope, found),
         }
     }
 
-    /// The keys, and what stands behind them.
+    /// The keys, in the scope inside, and what stands behind them.
     #[cycle(names)]
-    #[tactic(auto, using(crate::proofs::NameForms::frame_items))]
     fn order(
         &self,
         body: &Body,
         places: &[Places],
+        inside: &Frames<'_>,
         scope: &Frames<'_>,
         found: &mut List<u32>,
     ) -> Result<(), AllocError>
-        ensures { OnOk result (found.new ≡ found.old ++ lists.names_in_order self.now.catalog.now body.now places.now (entries scope.now)) }
+        ensures { OnOk result (found.new ≡ found.old ++ lists.names_in_order self.now.catalog.now body.now places.now (entries inside.now) (entries scope.now)) }
     {
-        let inside = Frames::Items(&*scope, body.from.as_slice());
-        self.keys(body.keys.as_slice(), places, &inside, found)?;
+        self.keys(body.keys.as_slice(), places, inside, found)?;
         self.bounds(body, beyond(body.keys.len(), places), scope, found)
     }
 
@@ -289,7 +315,7 @@ impl<'a> Names<'a> {
         }
     }
 
-    /// Each item sees the aliases of those before it, and no alias stands twice in a core.
+    /// No alias stands twice in a core.
     #[cycle(names)]
     fn items(
         &self,
@@ -309,7 +335,6 @@ impl<'a> Names<'a> {
     }
 
     #[cycle(names)]
-    #[tactic(auto, using(crate::proofs::NameForms::frame_items))]
     fn next_item(
         &self,
         item: &FromItem,
@@ -320,9 +345,25 @@ impl<'a> Names<'a> {
     ) -> Result<(), AllocError>
         ensures { OnOk result (found.new ≡ found.old ++ lists.names_in_next self.now.catalog.now item.now before.now places.now (entries scope.now)) }
     {
-        let inside = Frames::Items(&*scope, &*before);
-        self.item(item, places, &inside, found)?;
+        self.item_behind(item, before, places, scope, found)?;
         note(!has_alias(alias(item), before), start(places), found)
+    }
+
+    /// An item sees the aliases of those before it.
+    #[cycle(names)]
+    #[tactic(auto, using(crate::proofs::NameForms::frame_items))]
+    fn item_behind(
+        &self,
+        item: &FromItem,
+        before: &[FromItem],
+        places: &[Places],
+        scope: &Frames<'_>,
+        found: &mut List<u32>,
+    ) -> Result<(), AllocError>
+        ensures { OnOk result (found.new ≡ found.old ++ names.names_in_item self.now.catalog.now item.now places.now (names.with_items before.now (entries scope.now))) }
+    {
+        let inside = Frames::Items(&*scope, &*before);
+        self.item(item, places, &inside, found)
     }
 
     #[cycle(names)]

@@ -319,6 +319,7 @@ impl<'a> Typing<'a> {
 
     /// What items give, each seen by those behind it.
     #[cycle(types)]
+    #[tactic(auto, using(crate::proofs::ScopeForms::known_push))]
     fn items(
         &self,
         items: &[FromItem],

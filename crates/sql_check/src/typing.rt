@@ -141,6 +141,7 @@ impl<'a> Typing<'a> {
 
     /// The types of expressions, where each has one.
     #[cycle(typing)]
+    #[tactic(auto, using(crate::proofs::Behind::behind_none, crate::proofs::Behind::behind_more, crate::proofs::Behind::behind_all))]
     fn verdicts(
         &self,
         exprs: &[SqlExpr],
@@ -225,6 +226,7 @@ impl<'a> Typing<'a> {
 
     /// What items give, each seen by those behind it.
     #[cycle(typing)]
+    #[tactic(auto, using(crate::proofs::ScopeForms::known_push))]
     fn known(&self, items: &[FromItem], scope: &SortFrames<'_>) -> Result<List<Known>, AllocError>
         ensures { IfOk result (λ k. with_known k (sorts scope.now) ≡ lists.within_items self.now.catalog.now self.now.params.now items.now (sorts scope.now)) }
     {

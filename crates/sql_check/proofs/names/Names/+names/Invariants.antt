@@ -13,8 +13,8 @@ invariant-cores-loop-core l = l.found ++ names.names_in_list l.self.catalog.now 
 abbrev pub invariant-keys-loop-key : goal.invariant-keys-loop-key
 invariant-keys-loop-key l = l.found ++ lists.names_in_key_list l.self.catalog.now (drop l.key-index l.keys) l.left (entries l.scope) ≡ l.fn.found ++ lists.names_in_key_list l.self.catalog.now l.keys l.places (entries l.scope)
 
-abbrev pub invariant-columns-loop-i : goal.invariant-columns-loop-i
-invariant-columns-loop-i l = l.found ++ lists.names_in_column_list l.self.catalog.now (drop l.i l.columns) (lists.column_names (take l.i l.columns)) l.left (entries l.inside) ≡ l.fn.found ++ lists.names_in_column_list l.self.catalog.now l.columns [] l.places (entries l.inside)
+abbrev pub invariant-column_list-loop-i : goal.invariant-column_list-loop-i
+invariant-column_list-loop-i l = l.found ++ lists.names_in_column_list l.self.catalog.now (drop l.i l.columns) (lists.column_names (take l.i l.columns)) l.left (entries l.scope) ≡ l.fn.found ++ lists.names_in_column_list l.self.catalog.now l.columns [] l.places (entries l.scope)
 
 abbrev pub invariant-items-loop-i : goal.invariant-items-loop-i
 invariant-items-loop-i l = l.found ++ lists.names_in_item_list l.self.catalog.now (drop l.i l.items) (take l.i l.items) l.left (entries l.scope) ≡ l.fn.found ++ lists.names_in_item_list l.self.catalog.now l.items [] l.places (entries l.scope)

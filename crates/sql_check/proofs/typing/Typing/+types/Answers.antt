@@ -1,8 +1,8 @@
-use Rattle.std.proofs.Common.{◌≡◌, ◌++◌, sym, ap, ◌∙◌}
+use Rattle.std.proofs.Common.{◌≡◌, ◌++◌, drop, sym, ap, ◌∙◌}
 use Rattle.sql_check.specs.SortFrames.{sorts}
-use Rattle.sql_check.specs.Types.{types_in, types_in_item}
-use Rattle.sql_check.proofs.FaultForms.{none_added, of_int, of_text, of_bool, of_uuid, of_null, of_column, of_global, of_table}
-use Rattle.sql_check.proofs.types.Typing.+types.Goals as goal
+use Rattle.sql_check.specs.Types.{types_in, types_in_core, types_in_item}
+use Rattle.sql_check.proofs.FaultForms.{none_added, of_int, of_text, of_bool, of_uuid, of_null, of_column, of_global, of_table, of_all, of_distinct, core_faults}
+use Rattle.sql_check.proofs.typing.Typing.+types.Goals as goal
 
 pub expr-returns-in-Int : goal.expr-returns-in-Int
 expr-returns-in-Int t c =
@@ -35,3 +35,9 @@ expr-returns-in-Global t c =
 pub item_faults-returns-in-Table : goal.item_faults-returns-in-Table
 item_faults-returns-in-Table t c =
     none_added c.args.found.now _ (ap (λ i. types_in_item c.args.self.now.catalog.now c.args.self.now.params.now i c.args.places.now (sorts c.args.scope.now)) c.in-Table.is ∙ of_table c.args.self.now.catalog.now c.args.self.now.params.now c.args.places.now (sorts c.args.scope.now) c.in-Table.field-0 c.in-Table.field-1)
+
+pub faults-returns-in_ok-given_faults-in-All : goal.faults-returns-in_ok-given_faults-in-All
+faults-returns-in_ok-given_faults-in-All t c = ?
+
+pub faults-returns-in_ok-given_faults-in-Distinct : goal.faults-returns-in_ok-given_faults-in-Distinct
+faults-returns-in_ok-given_faults-in-Distinct t c = ?

@@ -2,7 +2,7 @@ use Rattle.std.proofs.Common.{◌≡◌, ◌++◌, drop}
 use Rattle.sql_check.specs.SortFrames.{sorts, with_known}
 use Rattle.sql_check.specs.TypeLists as lists
 use Rattle.sql_check.specs.Types as types
-use Rattle.sql_check.proofs.types.Typing.+types.Given as goal
+use Rattle.sql_check.proofs.typing.Typing.+types.Given as goal
 
 abbrev pub invariant-exprs-loop-expr : goal.invariant-exprs-loop-expr
 invariant-exprs-loop-expr l = l.found ++ lists.types_in_exprs l.self.catalog.now l.self.params.now (drop l.expr-index l.exprs) l.left (sorts l.scope) ≡ l.fn.found ++ lists.types_in_exprs l.self.catalog.now l.self.params.now l.exprs l.places (sorts l.scope)
