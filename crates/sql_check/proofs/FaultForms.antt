@@ -31,6 +31,7 @@ use Rattle.sql_check.specs.TypeLists.{of_place, truth, number, takes, known_of, 
 use Rattle.sql_check.specs.Types.{Sorts, failing, wanted, is_of, is_scalar, is_array, all_types, alike, unless_alike, core_sorts, within, verdict, types_in, types_in_all, types_in_cores, types_in_further, types_in_core, types_in_columns, types_in_items, types_in_item, types_in_keys, types_in_key, types_in_option, types_in_further_list, types_in_list}
 use Rattle.sql_check.specs.Walk.{start, inner, rest}
 use Rattle.sql_check.proofs.PartPlaces.{items_at, condition_at, keys_at, offset_at, limit_at}
+use Rattle.sql_check.proofs.ScopeForms.{known_next}
 use Rattle.sql_check.proofs.TyForms.{like_itself}
 use Rattle.sql_check.proofs.TypeForms.{within_hidden}
 use denote.Hole.Carrier as carrier
@@ -215,3 +216,14 @@ core_faults catalog params d ps r all one two new core columns cols body items k
     let second : with_known ls d ≡ within_items catalog params body.from d = ap (λ z. with_known z d) l ∙ scope in
     all_added r all one two new _ _ _ _ f g h
     (x ∙ sym (λ i. types_in_item_list catalog params (it i) (b i) d ++ (types_in_column_list catalog params (co i) (n i) (first i) ++ types_in_rows catalog params body (a i) (second i) d)))
+
+-- an item behind those before it
+pub item_more : (catalog : Catalog) (params : List Param) (item : FromItem) (known ks ls new : List Known) (entry : Known) (d : Sorts) (items more : List FromItem) (left next : List Places) (found one all : List ℕ)
+    → items ≡ item ∷ more → found ++ types_in_item_list catalog params items left (with_known known d) ≡ all
+    → one ≡ found ++ types_in_item catalog params item left (with_known ls d)
+    → ls ≡ known → ks ≡ known → entry ≡ known_of catalog params item (with_known ks d) → new ≡ known ++ entry ∷ [] → next ≡ rest left
+    → one ++ types_in_item_list catalog params more next (with_known new d) ≡ all
+item_more catalog params item known ks ls new entry d items more left next found one all here h o l k e n r =
+    let scope : with_known new d ≡ known_of catalog params item (with_known known d) ∷ with_known known d = known_next catalog params item known ks new entry d k e n in
+    let first : one ≡ found ++ types_in_item catalog params item left (with_known known d) = o ∙ ap (λ x. found ++ types_in_item catalog params item left (with_known x d)) l in
+    (λ i. first i ++ types_in_item_list catalog params more (r i) (scope i)) ∙ append_assoc found _ _ ∙ sym (ap (λ x. found ++ types_in_item_list catalog params x left (with_known known d)) here) ∙ h

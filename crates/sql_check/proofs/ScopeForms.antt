@@ -29,14 +29,17 @@ known_push [] k d = refl
 known_push (first ∷ more) k d = known_push more k (first ∷ d)
 
 -- what an item gives behind those before it
-pub known_more : (catalog : Catalog) (params : List Param) (items rest : List FromItem) (item : FromItem) (known ks new : List Known) (entry : Known) (d all : Sorts)
-    → items ≡ item ∷ rest → within_items catalog params items (with_known known d) ≡ all
-    → ks ≡ known → entry ≡ known_of catalog params item (with_known ks d) → new ≡ known ++ entry ∷ []
-    → within_items catalog params rest (with_known new d) ≡ all
-known_more catalog params items rest item known ks new entry d all here h k e n =
-    let given : with_known new d ≡ known_of catalog params item (with_known known d) ∷ with_known known d =
-        ap (λ l. with_known l d) n ∙ known_push known entry d ∙ ap (λ x. x ∷ with_known known d) (e ∙ ap (λ l. known_of catalog params item (with_known l d)) k) in
-    ap (λ w. within_items catalog params rest w) given ∙ sym (ap (λ l. within_items catalog params l (with_known known d)) here) ∙ h
+module _ (catalog : Catalog) (params : List Param) (item : FromItem) (known ks new : List Known) (entry : Known) (d : Sorts) where
+  pub known_next : ks ≡ known → entry ≡ known_of catalog params item (with_known ks d) → new ≡ known ++ entry ∷ []
+      → with_known new d ≡ known_of catalog params item (with_known known d) ∷ with_known known d
+  known_next k e n =
+      ap (λ l. with_known l d) n ∙ known_push known entry d ∙ ap (λ x. x ∷ with_known known d) (e ∙ ap (λ l. known_of catalog params item (with_known l d)) k)
+
+  pub known_more : (items more : List FromItem) (all : Sorts) → items ≡ item ∷ more → within_items catalog params items (with_known known d) ≡ all
+      → ks ≡ known → entry ≡ known_of catalog params item (with_known ks d) → new ≡ known ++ entry ∷ []
+      → within_items catalog params more (with_known new d) ≡ all
+  known_more items more all here h k e n =
+      ap (λ w. within_items catalog params more w) (known_next k e n) ∙ sym (ap (λ l. within_items catalog params l (with_known known d)) here) ∙ h
 
 module _ (alias name : Name) where
   with_newer : (b : Bool) (k : Known) (found : Option Known) (d : Sorts) → column_type_of alias name (if b then Some k else found) d ≡ (if b then sort_under name k.columns else column_type_of alias name found d)

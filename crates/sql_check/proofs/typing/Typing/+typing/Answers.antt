@@ -10,5 +10,5 @@ known-loop-item-preserved t c =
     let at = c.loop-item.item-index in
     let item = c.item-item.result in
     let here : drop at items ≡ item ∷ drop (at + 1) items = drop_more items at item c.loop-item-test.true ∙ ap (λ x. x ∷ drop (at + 1) items) (sym c.item-item.is) in
-    known_more c.args.self.now.catalog.now c.args.self.now.params.now (drop at items) (drop (at + 1) items) item c.loop-item.known c.as_slice.result.now c.push.new.self c.in_ok-entry.entry (sorts c.args.scope.now) _
-    here c.loop-item.invariant c.as_slice.ensures c.in_ok-entry.ensures c.in_ok-push.ensures.ok
+    known_more c.args.self.now.catalog.now c.args.self.now.params.now item c.loop-item.known c.as_slice.result.now c.push.new.self c.in_ok-entry.entry (sorts c.args.scope.now)
+    (drop at items) (drop (at + 1) items) _ here c.loop-item.invariant c.as_slice.ensures c.in_ok-entry.ensures c.in_ok-push.ensures.ok
