@@ -263,5 +263,5 @@ pub core_names : {T E : Type 0} (catalog : Catalog) (d : Scope) (ps : List Place
     → OnOk r (new ≡ all ++ names_in_core catalog core ps d)
 core_names catalog d ps r all one new core columns cols body inside behind e h x c n b =
     let parts : names_in_column_list catalog cols [] inside (with_items body.from d) ++ names_in_body catalog body behind d ≡ names_in_core catalog core ps d =
-        (λ i. names_in_column_list catalog (c i) [] (n i) (with_items body.from d) ++ names_in_body catalog body (b i) d) ∙ sym x in
+    (λ i. names_in_column_list catalog (c i) [] (n i) (with_items body.from d) ++ names_in_body catalog body (b i) d) ∙ sym x in
     subst (λ l. OnOk r (new ≡ l)) (ap (λ l. l ++ names_in_body catalog body behind d) e ∙ append_assoc all _ _ ∙ ap (λ l. all ++ l) parts) h

@@ -74,6 +74,7 @@ both_true a b e f = rw (e, f) refl
 
 mutual
   unfolding same_type
+
   same_itself : (t : SqlTy) → same_type t t ≡ true
   same_itself (d.Scalar s) = scalar_itself s
   same_itself (d.Row' _ row) = row_itself row

@@ -76,7 +76,6 @@ module _ (catalog : Catalog) (params : List Param) where
   sorts_unnest array alias d = refl
 
 module _ (catalog : Catalog) (params : List Param) (d : Sorts) where
-
   pub int_verdict : (z : ℤ) → verdict catalog params (expr.Int z) d ≡ Has INT
   unfolding verdict
   int_verdict z = refl

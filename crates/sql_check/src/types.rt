@@ -270,14 +270,38 @@ impl<'a> Typing<'a> {
             Core::All(columns, body) => {
                 let behind = beyond(columns.len(), inner(places));
                 let known = self.items(body.from.as_slice(), behind, scope, found)?;
-                self.given_faults(columns.as_slice(), known.as_slice(), inner(places), scope, found)?;
-                self.rows(body, known.as_slice(), beyond(body.from.len(), behind), scope, found)
+                self.given_faults(
+                    columns.as_slice(),
+                    known.as_slice(),
+                    inner(places),
+                    scope,
+                    found,
+                )?;
+                self.rows(
+                    body,
+                    known.as_slice(),
+                    beyond(body.from.len(), behind),
+                    scope,
+                    found,
+                )
             }
             Core::Distinct(columns, body) => {
                 let behind = beyond(columns.len(), inner(places));
                 let known = self.items(body.from.as_slice(), behind, scope, found)?;
-                self.given_faults(columns.as_slice(), known.as_slice(), inner(places), scope, found)?;
-                self.rows(body, known.as_slice(), beyond(body.from.len(), behind), scope, found)
+                self.given_faults(
+                    columns.as_slice(),
+                    known.as_slice(),
+                    inner(places),
+                    scope,
+                    found,
+                )?;
+                self.rows(
+                    body,
+                    known.as_slice(),
+                    beyond(body.from.len(), behind),
+                    scope,
+                    found,
+                )
             }
         }
     }
@@ -383,7 +407,13 @@ impl<'a> Typing<'a> {
                 scope,
                 found,
             ),
-            FromItem::Unnest(array, _) => self.in_place(array, Place::Array, inner(places), scope, found),
+            FromItem::Unnest(array, _) => self.in_place(
+                array,
+                Place::Array,
+                inner(places),
+                scope,
+                found,
+            ),
         }
     }
 
@@ -483,7 +513,13 @@ impl<'a> Typing<'a> {
         ensures { OnOk result (found.new ≡ found.old ++ lists.types_in_held self.now.catalog.now self.now.params.now limit.now lists.number places.now (sorts scope.now)) }
     {
         match limit {
-            Some(limit) => self.in_place(limit.get(), Place::Of(ScalarTy::Int64), places, scope, found),
+            Some(limit) => self.in_place(
+                limit.get(),
+                Place::Of(ScalarTy::Int64),
+                places,
+                scope,
+                found,
+            ),
             None => Ok(()),
         }
     }

@@ -11,9 +11,7 @@ use crate::sort::{Known, Sort, SortFrames};
 use crate::verdict::Verdict;
 use ev_list::Param;
 use ev_value::{List, ScalarTy, Text};
-use sql_ast::{
-    Binary, Case, Catalog, Column, Core, FromItem, Function, SqlExpr, SqlTy, UnaryOp,
-};
+use sql_ast::{Binary, Case, Catalog, Column, Core, FromItem, Function, SqlExpr, SqlTy, UnaryOp};
 use std::alloc::{AllocError, Global};
 
 /// What types stand on.
@@ -261,7 +259,11 @@ impl<'a> Typing<'a> {
         ensures { IfOk result (λ s. s ≡ types.item_sorts self.now.catalog.now self.now.params.now item.now (sorts scope.now)) }
     {
         match item {
-            FromItem::Table(name, _) => table_sorts(self.alloc, name, self.catalog.tables.as_slice()),
+            FromItem::Table(name, _) => table_sorts(
+                self.alloc,
+                name,
+                self.catalog.tables.as_slice(),
+            ),
             FromItem::Lateral(select, _) => self.select(select.cores.as_slice(), scope),
             FromItem::LeftLateral(select, _) => self.select(select.cores.as_slice(), scope),
             FromItem::Unnest(array, _) => self.elements(array, scope),

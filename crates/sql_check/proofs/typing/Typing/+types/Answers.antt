@@ -75,6 +75,7 @@ items-loop-item-preserved t c =
     let items = c.args.items.now in
     let at = c.loop-item.item-index in
     let item = c.item-item.result in
-    let here : drop at items ≡ item ∷ drop (at + 1) items = drop_more items at item c.loop-item-test.true ∙ ap (λ x. x ∷ drop (at + 1) items) (sym c.item-item.is) in
-    (known_more catalog params item c.loop-item.known c.as_slice-in-loop-item.result.now c.push.new.self c.in_ok-entry.entry d (drop at items) (drop (at + 1) items) _ here c.loop-item.invariant.0 c.as_slice-in-loop-item.ensures c.in_ok-entry.ensures c.in_ok-push.ensures.ok,
-    item_more catalog params item c.loop-item.known c.as_slice-in-loop-item.result.now c.as_slice.result.now c.push.new.self c.in_ok-entry.entry d (drop at items) (drop (at + 1) items) c.loop-item.left.now c.rest-left.result.now c.loop-item.found c.item_behind.new.found _ here c.loop-item.invariant.1 c.in_ok-item_behind.ensures c.as_slice.ensures c.as_slice-in-loop-item.ensures c.in_ok-entry.ensures c.in_ok-push.ensures.ok c.rest-left.ensures)
+    let here : drop at items ≡ item ∷ drop (at + 1) items = drop_more items at item c.loop-item-test.true ∙ ap (λ x. x ∷ drop (at + 1) items) (sym c.item-item.is) in (
+      known_more catalog params item c.loop-item.known c.as_slice-in-loop-item.result.now c.push.new.self c.in_ok-entry.entry d (drop at items) (drop (at + 1) items) _ here c.loop-item.invariant.0 c.as_slice-in-loop-item.ensures c.in_ok-entry.ensures c.in_ok-push.ensures.ok,
+      item_more catalog params item c.loop-item.known c.as_slice-in-loop-item.result.now c.as_slice.result.now c.push.new.self c.in_ok-entry.entry d (drop at items) (drop (at + 1) items) c.loop-item.left.now c.rest-left.result.now c.loop-item.found c.item_behind.new.found _ here c.loop-item.invariant.1 c.in_ok-item_behind.ensures c.as_slice.ensures c.as_slice-in-loop-item.ensures c.in_ok-entry.ensures c.in_ok-push.ensures.ok c.rest-left.ensures,
+    )
