@@ -69,42 +69,21 @@ static ROWS: [(&str, Outcome); 43] = [
         "SELECT \"v\".\"x\" AS \"a\" FROM \"no\" AS \"v\"",
         Outcome::Q2(7),
     ),
-    (
-        "SELECT 1 AS \"a\" FROM \"no\" AS \"v\"",
-        Outcome::Q2(21),
-    ),
+    ("SELECT 1 AS \"a\" FROM \"no\" AS \"v\"", Outcome::Q2(21)),
     (
         "SELECT 1 AS \"a\" FROM \"t\" AS \"t\", \"t\" AS \"t\"",
         Outcome::Q2(40),
     ),
-    (
-        "SELECT 1 AS \"a\", 2 AS \"a\"",
-        Outcome::Q2(22),
-    ),
-    (
-        "SELECT GLOBAL('h') AS \"a\"",
-        Outcome::Q2(7),
-    ),
-    (
-        "SELECT GLOBAL('g') + 1 AS \"a\"",
-        Outcome::Statement,
-    ),
+    ("SELECT 1 AS \"a\", 2 AS \"a\"", Outcome::Q2(22)),
+    ("SELECT GLOBAL('h') AS \"a\"", Outcome::Q2(7)),
+    ("SELECT GLOBAL('g') + 1 AS \"a\"", Outcome::Statement),
     (
         "SELECT 1 + 'a' AS \"a\", \"v\".\"x\" AS \"b\"",
         Outcome::Q2(23),
     ),
-    (
-        "SELECT 1 + 'a' AS \"a\"",
-        Outcome::Q3(7),
-    ),
-    (
-        "SELECT -(1 + 'a') AS \"a\"",
-        Outcome::Q3(9),
-    ),
-    (
-        "SELECT (1 + 2) + 'a' AS \"a\"",
-        Outcome::Q3(7),
-    ),
+    ("SELECT 1 + 'a' AS \"a\"", Outcome::Q3(7)),
+    ("SELECT -(1 + 'a') AS \"a\"", Outcome::Q3(9)),
+    ("SELECT (1 + 2) + 'a' AS \"a\"", Outcome::Q3(7)),
     (
         "SELECT CASE WHEN 1 THEN 2 ELSE 'a' END AS \"a\"",
         Outcome::Q3(17),
@@ -121,22 +100,13 @@ static ROWS: [(&str, Outcome); 43] = [
         "SELECT ARRAY(SELECT 1 AS \"a\" UNION ALL SELECT 'a' AS \"c\") AS \"a\"",
         Outcome::Q3(39),
     ),
-    (
-        "SELECT PART(ROW(1), 0) AS \"a\"",
-        Outcome::Q3(7),
-    ),
-    (
-        "SELECT PART(ROW(1), 1) AS \"a\"",
-        Outcome::Statement,
-    ),
+    ("SELECT PART(ROW(1), 0) AS \"a\"", Outcome::Q3(7)),
+    ("SELECT PART(ROW(1), 1) AS \"a\"", Outcome::Statement),
     (
         "SELECT ARG('p', INT) AS \"a\", ARG('p', TEXT) AS \"b\"",
         Outcome::Q3(29),
     ),
-    (
-        "SELECT ARG('p', ROW()) AS \"a\"",
-        Outcome::Q3(7),
-    ),
+    ("SELECT ARG('p', ROW()) AS \"a\"", Outcome::Q3(7)),
     (
         "SELECT \"e\".\"c1\" AS \"a\" FROM UNNEST(ARRAY(SELECT 1 AS \"a\")) AS \"e\"",
         Outcome::Statement,
@@ -149,30 +119,15 @@ static ROWS: [(&str, Outcome); 43] = [
         "SELECT 1 AS \"a\" FROM \"t\" AS \"t\" OFFSET \"t\".\"x\"",
         Outcome::Q2(39),
     ),
-    (
-        "SELECT 1 AS \"a\" LIMIT 'a'",
-        Outcome::Q3(22),
-    ),
-    (
-        "SELECT 1 AS \"a\" WHERE 1",
-        Outcome::Q3(22),
-    ),
-    (
-        "SELECT CAST('a' AS ARRAY(INT)) AS \"a\"",
-        Outcome::Q3(7),
-    ),
+    ("SELECT 1 AS \"a\" LIMIT 'a'", Outcome::Q3(22)),
+    ("SELECT 1 AS \"a\" WHERE 1", Outcome::Q3(22)),
+    ("SELECT CAST('a' AS ARRAY(INT)) AS \"a\"", Outcome::Q3(7)),
     (
         "SELECT 1 AS \"a\" FROM LATERAL (SELECT \"t\".\"x\" AS \"b\" FROM \"t\" AS \"t\") AS \"l\", LATERAL (SELECT \"l\".\"b\" AS \"c\") AS \"m\"",
         Outcome::Statement,
     ),
-    (
-        "SELECT 1",
-        Outcome::Q1,
-    ),
-    (
-        "SELECT LEN(1) AS \"a\"",
-        Outcome::Q3(7),
-    ),
+    ("SELECT 1", Outcome::Q1),
+    ("SELECT LEN(1) AS \"a\"", Outcome::Q3(7)),
     (
         "SELECT 1 AS \"a\" UNION ALL SELECT 1 AS \"b\", 2 AS \"c\"",
         Outcome::Q3(26),
@@ -189,26 +144,14 @@ static ROWS: [(&str, Outcome); 43] = [
         "SELECT ALL_OF(ARRAY(SELECT 1 AS \"b\")) AS \"a\"",
         Outcome::Q3(7),
     ),
-    (
-        "SELECT ASSERT_SINGLE(1) AS \"a\"",
-        Outcome::Q3(7),
-    ),
+    ("SELECT ASSERT_SINGLE(1) AS \"a\"", Outcome::Q3(7)),
     (
         "SELECT 1 AS \"a\" ORDER BY ROW() ASC NULLS FIRST",
         Outcome::Q3(25),
     ),
-    (
-        "SELECT TRUE = 1 AS \"a\"",
-        Outcome::Q3(7),
-    ),
-    (
-        "SELECT ROW() = ROW() AS \"a\"",
-        Outcome::Q3(7),
-    ),
-    (
-        "SELECT CAST(1 AS BOOL) AS \"a\"",
-        Outcome::Q3(7),
-    ),
+    ("SELECT TRUE = 1 AS \"a\"", Outcome::Q3(7)),
+    ("SELECT ROW() = ROW() AS \"a\"", Outcome::Q3(7)),
+    ("SELECT CAST(1 AS BOOL) AS \"a\"", Outcome::Q3(7)),
     (
         "SELECT CAST('a' AS BOOL) AS \"a\", CAST(1 AS TEXT) AS \"b\"",
         Outcome::Statement,
