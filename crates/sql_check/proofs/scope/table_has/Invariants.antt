@@ -1,0 +1,7 @@
+use Rattle.std.proofs.Common.{◌≡◌, drop}
+use Rattle.sql_ast.specs.WellFormed.{columns_under}
+use Rattle.sql_check.specs.Names.{is_listed}
+use Rattle.sql_check.proofs.scope.table_has.Given as goal
+
+abbrev pub invariant-loop-table : goal.invariant-loop-table
+invariant-loop-table l = is_listed l.column (columns_under l.name (drop l.table-index l.tables)) ≡ is_listed l.column (columns_under l.name l.tables)
