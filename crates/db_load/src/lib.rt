@@ -1,6 +1,6 @@
 //! Loading data: a JSON text becomes a store.
 #![tactic(auto)]
 
-mod load;
+mod data;
 
-pub use load::load;
+pub use data::load;

@@ -5,5 +5,3 @@ pub mod Frames
 pub mod Types
 pub mod SortFrames
 pub mod TypeLists
-pub mod Spelled
-pub mod Laws
