@@ -1,0 +1,6 @@
+pub mod LeastLaws
+pub mod Forms
+pub mod NameLaws
+pub mod SearchLaws
+pub mod BaseLaws
+pub mod VerdictLaws
