@@ -4,3 +4,4 @@ pub mod NameLaws
 pub mod SearchLaws
 pub mod BaseLaws
 pub mod VerdictLaws
+pub mod RepeatLaws

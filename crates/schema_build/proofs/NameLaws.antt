@@ -1,5 +1,5 @@
 -- A map to first places, as one more name is put last.
-use Rattle.std.proofs.Common.{◌≡◌, ℕ, suc, List, [], ◌∷◌, ◌++◌, length, Option, Some, None, option_map, is_eq, is_some, cond, Bool, true, false, if◌then◌else◌, refl, sym, ap, ◌∙◌}
+use Rattle.std.proofs.Common.{◌≡◌, ℕ, suc, List, [], ◌∷◌, ◌++◌, length, Option, Some, None, option_map, is_eq, is_some, cond, Bool, true, false, if◌then◌else◌, Result, Ok, Err, OnOk, OnErr, rules, refl, sym, ap, subst, ◌∙◌}
 use Rattle.std.proofs.lemmas.Slice.Eq.{bytes_eq-Decides}
 use Rattle.std.specs.BTreeMap.{BTreeMap}
 use Rattle.std.specs.BTreeMap as tree
@@ -58,3 +58,19 @@ pub finds_again : (m : BTreeMap (List ℕ) ℕ) (names : List (List ℕ)) (k : L
 finds_again m names k finds there x =
     finds x ∙ kept (bytes_eq k x) (length names) (place_of x names) (λ e. ap is_some (same_place k x names e) ∙ there)
     ∙ sym (place_of-last x k names)
+
+-- The map and the list go on together where a new name is put into both.
+pub finds_more : (m n : BTreeMap (List ℕ) ℕ) (names now : List (List ℕ)) (k name kept : List ℕ) (place : ℕ) → FindsFirst m names → place_of name names ≡ None
+    → k ≡ name → kept ≡ name → place ≡ length names → now ≡ names ++ kept ∷ []
+    → ((x : List ℕ) → tree.get (slice_cmp nat_cmp) n x ≡ cond (is_eq (slice_cmp nat_cmp k x)) (Some place) (tree.get (slice_cmp nat_cmp) m x)) → FindsFirst n now
+finds_more m n names now k name kept place finds new key copy at is updates =
+    subst (λ (x : List (List ℕ)). FindsFirst n x) (sym (is ∙ ap (λ z. names ++ z ∷ []) (copy ∙ sym key)))
+      (finds_new m n names k finds (ap (λ z. place_of z names) key ∙ new)
+        (λ x. updates x ∙ ap (λ p. cond (is_eq (slice_cmp nat_cmp k x)) (Some p) (tree.get (slice_cmp nat_cmp) m x)) at))
+
+-- Where a name that is there is put into the list, or is not for want of memory, the map stays.
+pub finds_after : {T E : Type 0} (r : Result T E) (m : BTreeMap (List ℕ) ℕ) (names now : List (List ℕ)) (name kept : List ℕ) → FindsFirst m names → is_among name names ≡ true
+    → kept ≡ name → OnOk r (now ≡ names ++ kept ∷ []) → OnErr r (now ≡ names) → FindsFirst m now
+finds_after (Ok v) m names now name kept finds there copy ok err =
+    subst (λ (x : List (List ℕ)). FindsFirst m x) (sym (ok ∙ ap (λ z. names ++ z ∷ []) copy)) (finds_again m names name finds there)
+finds_after (Err e) m names now name kept finds there copy ok err = subst (λ (x : List (List ℕ)). FindsFirst m x) (sym err) finds

@@ -98,9 +98,9 @@ declared_names [] = []
 declared_names (decl.Type s t ∷ more) = pointer_names t.members ∷ declared_names more
 declared_names (decl.Global s g ∷ more) = declared_names more
 
--- some name is among both
+-- some name of the second is among the first
 abbrev pub shares : List (List ℕ) → List (List ℕ) → Bool
-shares a b = list_any (λ name. is_among name b) a
+shares a b = list_any (λ name. is_among name a) b
 
 -- a name that is written twice
 abbrev pub repeats_a_name : List (List ℕ) → Bool

@@ -244,7 +244,7 @@ fn add_all(alloc: Global, seen: &mut Names, names: &[Text]) -> Result<(), AllocE
 }
 
 fn shares(seen: &Names, names: &[Text]) -> bool
-    ensures { result ≡ spec.shares names.now seen.now }
+    ensures { result ≡ spec.shares seen.now names.now }
 {
     for name in names {
         if seen.has(name) {

@@ -32,23 +32,39 @@ fn built_told(built: Result<Schema, SchemaRefusal>) -> Outcome {
     }
 }
 
-fn tokens_told(alloc: Global, tokens: &Tokens) -> Outcome {
+fn built_from(alloc: Global, tokens: &Tokens) -> Option<Result<Schema, SchemaRefusal>> {
     if tokens.len() > 10000 {
-        return Outcome::Nothing;
+        return None;
     }
     match parse_schema(alloc, tokens) {
-        Ok(file) => built_told(build(alloc, file)),
-        Err(_) => Outcome::Nothing,
+        Ok(file) => Some(build(alloc, file)),
+        Err(_) => None,
+    }
+}
+
+/// What is built of a text that has a tree.
+fn built_of(alloc: Global, text: &[u8]) -> Option<Result<Schema, SchemaRefusal>> {
+    if text.len() > 10000 {
+        return None;
+    }
+    match lex(alloc, text) {
+        Ok(tokens) => built_from(alloc, &tokens),
+        Err(_) => None,
     }
 }
 
 fn told(alloc: Global, text: &[u8]) -> Outcome {
-    if text.len() > 10000 {
-        return Outcome::Nothing;
+    match built_of(alloc, text) {
+        Some(built) => built_told(built),
+        None => Outcome::Nothing,
     }
-    match lex(alloc, text) {
-        Ok(tokens) => tokens_told(alloc, &tokens),
-        Err(_) => Outcome::Nothing,
+}
+
+fn schema_in(alloc: Global, text: &[u8]) -> Option<Schema> {
+    match built_of(alloc, text) {
+        Some(Ok(schema)) => Some(schema),
+        Some(Err(_)) => None,
+        None => None,
     }
 }
 
@@ -293,27 +309,6 @@ fn bounds_are(schema: &Schema, bounds: &[Card]) -> bool {
     left.is_empty()
 }
 
-fn with_schema(alloc: Global, text: &[u8], holds: fn(&Schema) -> bool) -> bool {
-    if text.len() > 10000 {
-        return false;
-    }
-    match lex(alloc, text) {
-        Ok(tokens) => {
-            if tokens.len() > 10000 {
-                return false;
-            }
-            match parse_schema(alloc, &tokens) {
-                Ok(file) => match build(alloc, file) {
-                    Ok(schema) => holds(&schema),
-                    Err(_) => false,
-                },
-                Err(_) => false,
-            }
-        }
-        Err(_) => false,
-    }
-}
-
 fn lines_are_whole(schema: &Schema) -> bool {
     match schema.types.as_slice() {
         [d, a, b, c] => {
@@ -344,7 +339,11 @@ fn the_first_broken_rule_is_told(rt: HostRuntime) -> Result<(), Fail> {
 fn schemas_hold_what_is_declared(rt: HostRuntime) -> Result<(), Fail> {
     let alloc = rt.alloc();
     assert!(rt; empty(alloc)?.types.is_empty());
-    assert!(rt; with_schema(alloc, b"type D extending B, C { d: str; } type A { a: str; } type B extending A; type C { c: str; }", lines_are_whole));
-    assert!(rt; with_schema(alloc, b"type A { a: str; optional multi b: A; required c: A; multi required d: str; }", bounds_as_written));
+    let lines = b"type D extending B, C { d: str; } type A { a: str; } type B extending A; type C { c: str; }";
+    let lined = schema_in(alloc, lines).ok_or("the lines have no schema")?;
+    assert!(rt; lines_are_whole(&lined));
+    let bounds = b"type A { a: str; optional multi b: A; required c: A; multi required d: str; }";
+    let bounded = schema_in(alloc, bounds).ok_or("the bounds have no schema")?;
+    assert!(rt; bounds_as_written(&bounded));
     Ok(())
 }
