@@ -74,9 +74,9 @@ object_in_below count None b below h = absurd (none_in b h)
 numbers_below : (types : List (List ℕ)) (names : List QualifiedName) (b : TypeId) → Contains (numbers_of types names) b → b.0 < length types
 numbers_below types [] b h = absurd (none_in b h)
 numbers_below types (q ∷ more) b h = elim (Contains-append_cases (object_in (meaning_of types q)) (numbers_of types more) b h) [
-    | inl own ↦ object_in_below (length types) (meaning_of types q) b (meaning_below types q) own
-    | inr rest ↦ numbers_below types more b rest
-  ]
+  | inl own ↦ object_in_below (length types) (meaning_of types q) b (meaning_below types q) own
+  | inr rest ↦ numbers_below types more b rest
+]
 
 bases_below : (types : List (List ℕ)) (ds : List Decl) (n : ℕ) (b : TypeId) → Contains (at (bases_of types ds) n) b → b.0 < length types
 bases_below types [] n b h = absurd (none_in b h)

@@ -65,8 +65,8 @@ pub finds_more : (m n : BTreeMap (List ℕ) ℕ) (names now : List (List ℕ)) (
     → ((x : List ℕ) → tree.get (slice_cmp nat_cmp) n x ≡ cond (is_eq (slice_cmp nat_cmp k x)) (Some place) (tree.get (slice_cmp nat_cmp) m x)) → FindsFirst n now
 finds_more m n names now k name kept place finds new key copy at is updates =
     subst (λ (x : List (List ℕ)). FindsFirst n x) (sym (is ∙ ap (λ z. names ++ z ∷ []) (copy ∙ sym key)))
-      (finds_new m n names k finds (ap (λ z. place_of z names) key ∙ new)
-        (λ x. updates x ∙ ap (λ p. cond (is_eq (slice_cmp nat_cmp k x)) (Some p) (tree.get (slice_cmp nat_cmp) m x)) at))
+    (finds_new m n names k finds (ap (λ z. place_of z names) key ∙ new)
+    (λ x. updates x ∙ ap (λ p. cond (is_eq (slice_cmp nat_cmp k x)) (Some p) (tree.get (slice_cmp nat_cmp) m x)) at))
 
 -- Where a name that is there is put into the list, or is not for want of memory, the map stays.
 pub finds_after : {T E : Type 0} (r : Result T E) (m : BTreeMap (List ℕ) ℕ) (names now : List (List ℕ)) (name kept : List ℕ) → FindsFirst m names → is_among name names ≡ true

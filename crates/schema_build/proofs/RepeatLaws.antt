@@ -65,10 +65,10 @@ repeats_is : (seen xs : List (List ℕ)) → repeats_from seen xs ≡ (list_any 
 repeats_is seen [] = refl
 repeats_is seen (x ∷ more) =
     ap (λ t. is_among x seen || t)
-      (repeats_is (seen ++ x ∷ []) more
-        ∙ ap (λ t. t || has_repeat bytes_eq more)
-          (any_same (λ y. is_among y (seen ++ x ∷ [])) (λ y. is_among y seen || bytes_eq x y) more (λ y. among_both y seen (x ∷ []) ∙ ap (λ t. is_among y seen || t) (among_one y x))
-            ∙ any_either (λ y. is_among y seen) (bytes_eq x) more))
+    (repeats_is (seen ++ x ∷ []) more
+    ∙ ap (λ t. t || has_repeat bytes_eq more)
+    (any_same (λ y. is_among y (seen ++ x ∷ [])) (λ y. is_among y seen || bytes_eq x y) more (λ y. among_both y seen (x ∷ []) ∙ ap (λ t. is_among y seen || t) (among_one y x))
+    ∙ any_either (λ y. is_among y seen) (bytes_eq x) more))
     ∙ or_turn (is_among x seen) (list_any (λ y. is_among y seen) more) (list_any (bytes_eq x) more) (has_repeat bytes_eq more)
 
 -- A walk that has seen nothing finds what occurs twice.
@@ -82,9 +82,9 @@ shares_is : (seen : List (List ℕ)) (gs : List (List (List ℕ))) → shares_fr
 shares_is seen [] = refl
 shares_is seen (g ∷ more) =
     ap (λ t. shares seen g || t)
-      (shares_is (seen ++ g) more
-        ∙ ap (λ t. t || has_repeat shares more)
-          (any_same (shares (seen ++ g)) (λ h. shares seen h || shares g h) more (shares_both seen g) ∙ any_either (shares seen) (shares g) more))
+    (shares_is (seen ++ g) more
+    ∙ ap (λ t. t || has_repeat shares more)
+    (any_same (shares (seen ++ g)) (λ h. shares seen h || shares g h) more (shares_both seen g) ∙ any_either (shares seen) (shares g) more))
     ∙ or_turn (shares seen g) (list_any (shares seen) more) (list_any (shares g) more) (has_repeat shares more)
 
 -- A walk that has seen the first group finds whether two groups share a name.

@@ -96,7 +96,7 @@ stays s t there = record {
   news = λ b f. inl f;
   waiting = λ a c. inl c;
   marked = λ b c l. let e : t ≡ b = only t b c in
-    subst (λ (x : TypeId). IsFound s.found x) e (there (subst (λ (x : TypeId). x.0 < length s.found) (sym e) l));
+      subst (λ (x : TypeId). IsFound s.found x) e (there (subst (λ (x : TypeId). x.0 < length s.found) (sym e) l));
   nearer = omega arith;
 }
 
@@ -220,9 +220,9 @@ nearer bases next s p same popped =
 pub number_found : (n : ℕ) (found : List Bool) (b : TypeId) → Contains (found_from n found) b → (k : ℕ) × (b.0 ≡ k + n) × (slice_get found k ≡ Some true)
 number_found n [] b h = absurd (none_in b h)
 number_found n (true ∷ more) b h = elim (head_or_later (record { 0 = n }) (found_from (suc n) more) b h) [
-    | inl e ↦ (0, let f : n ≡ b.0 = ap (λ (x : TypeId). x.0) e in omega arith, refl)
-    | inr rest ↦ let r = number_found (suc n) more b rest in (suc r.0, omega (arith, r.1), r.2)
-  ]
+  | inl e ↦ (0, let f : n ≡ b.0 = ap (λ (x : TypeId). x.0) e in omega arith, refl)
+  | inr rest ↦ let r = number_found (suc n) more b rest in (suc r.0, omega (arith, r.1), r.2)
+]
 number_found n (false ∷ more) b h = let r = number_found (suc n) more b h in (suc r.0, omega (arith, r.1), r.2)
 
 pub found_number : (n : ℕ) (found : List Bool) (b : TypeId) (k : ℕ) → b.0 ≡ k + n → slice_get found k ≡ Some true → Contains (found_from n found) b
@@ -243,10 +243,13 @@ rise n (false ∷ more) = rise (suc n) more
 pub finds_lineage : (bases : List (List TypeId)) (t : TypeId) (s : Search) → IsSearch bases t s → s.pending ≡ [] → IsLineage bases t (found_from 0 s.found)
 finds_lineage bases t s held done =
     let closed : (a : TypeId) → IsFound s.found a → (b : TypeId) → IsBase bases a b → IsFound s.found b =
-      λ a f. elim (held.closed a f) [ inl c ↦ absurd (none_in a (subst (λ (x : List TypeId). Contains x a) done c)) | inr bases_found ↦ bases_found ] in
-    (rise 0 s.found, λ b.
-      (λ c. let r = number_found 0 s.found b c in let e : r.0 ≡ b.0 = omega (arith, r.1) in held.sound b (subst (λ n. slice_get s.found n ≡ Some true) e r.2),
-      λ x. found_number 0 s.found b b.0 (omega arith) (reached bases s.found closed t b x held.begun)))
+    λ a f. elim (held.closed a f) [ inl c ↦ absurd (none_in a (subst (λ (x : List TypeId). Contains x a) done c)) | inr bases_found ↦ bases_found ] in (
+      rise 0 s.found,
+      λ b. (
+        λ c. let r = number_found 0 s.found b c in let e : r.0 ≡ b.0 = omega (arith, r.1) in held.sound b (subst (λ n. slice_get s.found n ≡ Some true) e r.2),
+        λ x. found_number 0 s.found b b.0 (omega arith) (reached bases s.found closed t b x held.begun),
+      ),
+    )
 
 extends_some : (bases : List (List TypeId)) (a b : TypeId) → at bases a.0 ≡ [] → Extends bases a b → ⊥
 extends_some bases a b none (directly _ _ base) = none_in b (subst (λ (x : List TypeId). Contains x b) none base)
@@ -273,9 +276,11 @@ at_end (x ∷ more) line (suc k) h = at_end more line k (omega arith)
 pub lines_more : (bases lines now : List (List TypeId)) (line : List TypeId) (n : ℕ) → length lines ≡ n
     → ((a : TypeId) → a.0 < n → IsLineage bases a (at lines a.0)) → IsLineage bases (record { 0 = n }) line → now ≡ lines ++ line ∷ []
     → (length now ≡ n + 1) × ((a : TypeId) → a.0 < n + 1 → IsLineage bases a (at now a.0))
-lines_more bases lines now line n size held new is =
-    (omega (arith, ap length is, length-append lines (line ∷ [])), λ a h.
+lines_more bases lines now line n size held new is = (
+  omega (arith, ap length is, length-append lines (line ∷ [])),
+  λ a h.
       below_more (λ k. IsLineage bases (record { 0 = k }) (at now k)) n
-        (λ k below. subst (λ (x : List TypeId). IsLineage bases (record { 0 = k }) x) (sym (ap (λ (ls : List (List TypeId)). at ls k) is ∙ at_before lines line k (omega arith))) (held (record { 0 = k }) below))
-        (subst (λ (x : List TypeId). IsLineage bases (record { 0 = n }) x) (sym (ap (λ (ls : List (List TypeId)). at ls n) is ∙ at_end lines line n size)) new)
-        a.0 h)
+      (λ k below. subst (λ (x : List TypeId). IsLineage bases (record { 0 = k }) x) (sym (ap (λ (ls : List (List TypeId)). at ls k) is ∙ at_before lines line k (omega arith))) (held (record { 0 = k }) below))
+      (subst (λ (x : List TypeId). IsLineage bases (record { 0 = n }) x) (sym (ap (λ (ls : List (List TypeId)). at ls n) is ∙ at_end lines line n size)) new)
+      a.0 h,
+)

@@ -28,7 +28,7 @@ pub first_due : (foreign : Option ℕ) (ds : List Decl) (b : Bool) (types : List
     → types ≡ type_names ds → Some broken ≡ first_verdict foreign ds types → IsAnswerOf foreign ds (Err (refusal.Build broken))
 first_due foreign ds b types broken is no names first =
     inr (due_first (list_any has_unbuilt ds) (first_verdict foreign ds (type_names ds)) broken ds (type_names ds) (sym is ∙ no)
-      (subst (λ (ts : List (List ℕ)). first_verdict foreign ds ts ≡ Some broken) names (sym first)))
+    (subst (λ (ts : List (List ℕ)). first_verdict foreign ds ts ≡ Some broken) names (sym first)))
 
 pub told_later : (ds : List Decl) (types : List (List ℕ)) (bases lines along : List (List TypeId)) (r : Result Schema SchemaRefusal) → bases ≡ bases_of types ds → AreLineages bases lines
     → along ≡ lines → IsTold (later_verdict ds types along) (schema_of ds types along) r → IsLater ds types r
@@ -46,4 +46,4 @@ pub later_due : (foreign : Option ℕ) (ds : List Decl) (b : Bool) (types : List
 later_due foreign ds b types r is no names first (inl memory) = inl memory
 later_due foreign ds b types r is no names first (inr answer) =
     subst (λ (ts : List (List ℕ)). (r ≡ Err refusal.Memory) ⊎ IsDue (list_any has_unbuilt ds) (first_verdict foreign ds ts) ds ts r) names
-      (inr (due_later (list_any has_unbuilt ds) (first_verdict foreign ds types) ds types r (sym is ∙ no) (sym first) answer))
+    (inr (due_later (list_any has_unbuilt ds) (first_verdict foreign ds types) ds types r (sym is ∙ no) (sym first) answer))

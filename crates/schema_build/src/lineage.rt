@@ -132,11 +132,7 @@ fn numbers_found(alloc: Global, found: &[bool]) -> Result<List<TypeId>, AllocErr
 }
 
 /// The types that a type extends at any distance: a search from its bases on.
-fn lineage(
-    alloc: Global,
-    bases: &[List<TypeId>],
-    ty: TypeId,
-) -> Result<List<TypeId>, AllocError>
+fn lineage(alloc: Global, bases: &[List<TypeId>], ty: TypeId) -> Result<List<TypeId>, AllocError>
     requires few { length bases.now < 2 ^ 32 }
     requires within { search.AreWithin bases.now }
     ensures { IfOk result (λ line. spec.IsLineage bases.now ty line) }
@@ -154,10 +150,7 @@ fn lineage(
 }
 
 /// The lineage of each type.
-pub fn lineages(
-    alloc: Global,
-    bases: &[List<TypeId>],
-) -> Result<List<List<TypeId>>, AllocError>
+pub fn lineages(alloc: Global, bases: &[List<TypeId>]) -> Result<List<List<TypeId>>, AllocError>
     requires few { length bases.now < 2 ^ 32 }
     requires within { search.AreWithin bases.now }
     ensures { IfOk result (λ lines. spec.AreLineages bases.now lines) }
@@ -321,7 +314,10 @@ pub fn clashing(
     let mut number: usize = 0;
     for decl in decls {
         if let Decl::Type(span, _) = decl {
-            found = sooner(found, at_if(clashes(alloc, names, lines, number)?, span.start));
+            found = sooner(
+                found,
+                at_if(clashes(alloc, names, lines, number)?, span.start),
+            );
             number += 1;
         }
     }

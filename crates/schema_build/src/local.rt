@@ -88,10 +88,7 @@ fn in_body(
         PointerBody::Stored(name, items) => {
             let items = items.as_slice();
             let whole = at_items(alloc, rule, items)?;
-            Ok(sooner(
-                whole,
-                in_items(types, rule, types.meaning_of(name), items),
-            ))
+            Ok(sooner(whole, in_items(types, rule, types.meaning_of(name), items)))
         }
         PointerBody::Computed(_) => Ok(None),
     }

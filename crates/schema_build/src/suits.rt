@@ -114,7 +114,8 @@ fn suits(meant: Option<Meant>, constraining: Constraining, arguments: &[Expr]) -
         Constraining::MinValue
         | Constraining::MaxValue
         | Constraining::MinExValue
-        | Constraining::MaxExValue => has_scalar(ScalarTy::Int64, meant) && is_one_number(arguments),
+        | Constraining::MaxExValue => has_scalar(ScalarTy::Int64, meant)
+            && is_one_number(arguments),
         Constraining::MinLen | Constraining::MaxLen => {
             has_scalar(ScalarTy::Str, meant) && is_one_number(arguments)
         }

@@ -151,11 +151,7 @@ fn built_later(alloc: Global, types: &Names, decls: &[Decl]) -> Result<Schema, S
     built_along(alloc, types, lines.as_slice(), decls)
 }
 
-fn built(
-    alloc: Global,
-    foreign: Option<u32>,
-    decls: &[Decl],
-) -> Result<Schema, SchemaRefusal>
+fn built(alloc: Global, foreign: Option<u32>, decls: &[Decl]) -> Result<Schema, SchemaRefusal>
     requires { length decls.now < 2 ^ 32 }
     ensures { spec.IsAnswerOf foreign decls.now result }
 {

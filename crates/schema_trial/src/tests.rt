@@ -99,7 +99,10 @@ static ROWS: [(&[u8], Outcome); 78] = [
     (b"global __g: str;", Outcome::Broken(Rule::M10, 0)),
     (b"type A { id: uuid; }", Outcome::Broken(Rule::M10, 9)),
     (b"type A { ID: uuid; }", Outcome::Schema(1, 2, 0)),
-    (b"type A { required __x: str; }", Outcome::Broken(Rule::M10, 9)),
+    (
+        b"type A { required __x: str; }",
+        Outcome::Broken(Rule::M10, 9),
+    ),
     (
         b"type A { l: A { property __p: str; }; }",
         Outcome::Broken(Rule::M10, 16),
@@ -111,8 +114,14 @@ static ROWS: [(&[u8], Outcome); 78] = [
         b"type A; module default { type B; } module default { type C; }",
         Outcome::Schema(3, 1, 0),
     ),
-    (b"type A { overloaded x: str; }", Outcome::Broken(Rule::M11, 9)),
-    (b"type A { overloaded id: str; }", Outcome::Broken(Rule::M10, 9)),
+    (
+        b"type A { overloaded x: str; }",
+        Outcome::Broken(Rule::M11, 9),
+    ),
+    (
+        b"type A { overloaded id: str; }",
+        Outcome::Broken(Rule::M10, 9),
+    ),
     (
         b"type A { overloaded x: str; id: str; }",
         Outcome::Broken(Rule::M11, 9),
@@ -197,7 +206,10 @@ static ROWS: [(&[u8], Outcome); 78] = [
         b"type A { x: std::str; y: default::A; }",
         Outcome::Schema(1, 3, 0),
     ),
-    (b"type A { x: default::str; }", Outcome::Broken(Rule::M2, 12)),
+    (
+        b"type A { x: default::str; }",
+        Outcome::Broken(Rule::M2, 12),
+    ),
     (b"type A { x: std::A; }", Outcome::Broken(Rule::M2, 12)),
     (b"type A { x: STD::str; }", Outcome::Broken(Rule::M2, 12)),
     (b"type A { link x: str; }", Outcome::Broken(Rule::M2, 17)),
@@ -268,7 +280,10 @@ static ROWS: [(&[u8], Outcome); 78] = [
         b"type A { x: int64 { constraint Exclusive; } }",
         Outcome::Broken(Rule::M5, 20),
     ),
-    (b"type A { x: A { default := 1; } }", Outcome::Broken(Rule::M5, 16)),
+    (
+        b"type A { x: A { default := 1; } }",
+        Outcome::Broken(Rule::M5, 16),
+    ),
     // M6
     (
         b"type A { l: A { required p: str; } }",
@@ -278,7 +293,10 @@ static ROWS: [(&[u8], Outcome); 78] = [
         b"type A { l: A { optional single p: str; multi q: str; } }",
         Outcome::Broken(Rule::M6, 40),
     ),
-    (b"type A { x: str { p: str; } }", Outcome::Broken(Rule::M6, 18)),
+    (
+        b"type A { x: str { p: str; } }",
+        Outcome::Broken(Rule::M6, 18),
+    ),
     (
         b"type A { l: A { p: str; q: str; p: int64; } }",
         Outcome::Broken(Rule::M6, 32),
@@ -325,7 +343,13 @@ fn lines_are_whole(schema: &Schema) -> bool {
 fn bounds_as_written(schema: &Schema) -> bool {
     bounds_are(
         schema,
-        &[Card::AtMostOne, Card::Many, Card::One, Card::AtLeastOne, Card::One],
+        &[
+            Card::AtMostOne,
+            Card::Many,
+            Card::One,
+            Card::AtLeastOne,
+            Card::One,
+        ],
     )
 }
 
@@ -339,7 +363,8 @@ fn the_first_broken_rule_is_told(rt: HostRuntime) -> Result<(), Fail> {
 fn schemas_hold_what_is_declared(rt: HostRuntime) -> Result<(), Fail> {
     let alloc = rt.alloc();
     assert!(rt; empty(alloc)?.types.is_empty());
-    let lines = b"type D extending B, C { d: str; } type A { a: str; } type B extending A; type C { c: str; }";
+    let lines =
+        b"type D extending B, C { d: str; } type A { a: str; } type B extending A; type C { c: str; }";
     let lined = schema_in(alloc, lines).ok_or("the lines have no schema")?;
     assert!(rt; lines_are_whole(&lined));
     let bounds = b"type A { a: str; optional multi b: A; required c: A; multi required d: str; }";

@@ -24,4 +24,4 @@ built_along-requires-clause-types c = omega (arith, ap length c.requires.types, 
 pub returns : goal.returns
 returns c =
     told_later c.args.decls.now c.args.types.now c.as_slice.result.now c.in_ok-lines.lines c.as_slice-2.result.now c.built_along.result
-      (c.as_slice.ensures ∙ c.in_ok-bases.ensures) c.in_ok-lines.ensures c.as_slice-2.ensures c.built_along.ensures
+    (c.as_slice.ensures ∙ c.in_ok-bases.ensures) c.in_ok-lines.ensures c.as_slice-2.ensures c.built_along.ensures

@@ -9,4 +9,4 @@ invariant_of-self-in-Ok c =
     let pushed = c.in_ok-push.ensures {u = tt} in
     let told = c.in-Ok.ensures {u = tt} in
     finds_more c.self.inside.places c.insert.new.self c.self.inside.order c.push.new.self c.in_ok-key.key c.args.name.now c.in_ok-kept.kept c.len-place.result
-      c.self.invariant new c.in_ok-key.ensures c.in_ok-kept.ensures c.len-place.ensures pushed.ok told.updates.0
+    c.self.invariant new c.in_ok-key.ensures c.in_ok-kept.ensures c.len-place.ensures pushed.ok told.updates.0
