@@ -17,7 +17,7 @@ due_unbuilt true first ds types e = refl
 due_unbuilt false first ds types e = cc
 
 pub unbuilt_due : (foreign : Option ℕ) (ds : List Decl) (b : Bool) → b ≡ list_any has_unbuilt ds → b ≡ true → IsAnswerOf foreign ds (Err refusal.Unbuilt)
-unbuilt_due foreign ds b is yes = inr (due_unbuilt (list_any has_unbuilt ds) (first_verdict foreign ds (type_names ds)) ds (type_names ds) (sym is ∙ yes))
+unbuilt_due foreign ds b is holds = inr (due_unbuilt (list_any has_unbuilt ds) (first_verdict foreign ds (type_names ds)) ds (type_names ds) (sym is ∙ holds))
 
 due_first : (b : Bool) (first : Option Broken) (broken : Broken) (ds : List Decl) (types : List (List ℕ)) → b ≡ false → first ≡ Some broken → IsDue b first ds types (Err (refusal.Build broken))
 due_first true first broken ds types e f = cc
@@ -26,8 +26,8 @@ due_first false (Some other) broken ds types e f = cc
 
 pub first_due : (foreign : Option ℕ) (ds : List Decl) (b : Bool) (types : List (List ℕ)) (broken : Broken) → b ≡ list_any has_unbuilt ds → b ≡ false
     → types ≡ type_names ds → Some broken ≡ first_verdict foreign ds types → IsAnswerOf foreign ds (Err (refusal.Build broken))
-first_due foreign ds b types broken is no names first =
-    inr (due_first (list_any has_unbuilt ds) (first_verdict foreign ds (type_names ds)) broken ds (type_names ds) (sym is ∙ no)
+first_due foreign ds b types broken is passes names first =
+    inr (due_first (list_any has_unbuilt ds) (first_verdict foreign ds (type_names ds)) broken ds (type_names ds) (sym is ∙ passes)
     (subst (λ (ts : List (List ℕ)). first_verdict foreign ds ts ≡ Some broken) names (sym first)))
 
 pub told_later : (ds : List Decl) (types : List (List ℕ)) (bases lines along : List (List TypeId)) (r : Result Schema SchemaRefusal) → bases ≡ bases_of types ds → AreLineages bases lines
@@ -43,7 +43,7 @@ due_later false None ds types r e f due = due
 
 pub later_due : (foreign : Option ℕ) (ds : List Decl) (b : Bool) (types : List (List ℕ)) (r : Result Schema SchemaRefusal)
     → b ≡ list_any has_unbuilt ds → b ≡ false → types ≡ type_names ds → None ≡ first_verdict foreign ds types → IsLater ds types r → IsAnswerOf foreign ds r
-later_due foreign ds b types r is no names first (inl memory) = inl memory
-later_due foreign ds b types r is no names first (inr answer) =
+later_due foreign ds b types r is passes names first (inl memory) = inl memory
+later_due foreign ds b types r is passes names first (inr answer) =
     subst (λ (ts : List (List ℕ)). (r ≡ Err refusal.Memory) ⊎ IsDue (list_any has_unbuilt ds) (first_verdict foreign ds ts) ds ts r) names
-    (inr (due_later (list_any has_unbuilt ds) (first_verdict foreign ds types) ds types r (sym is ∙ no) (sym first) answer))
+    (inr (due_later (list_any has_unbuilt ds) (first_verdict foreign ds types) ds types r (sym is ∙ passes) (sym first) answer))

@@ -8,9 +8,9 @@ returns-then-some_unbuilt c = unbuilt_due c.args.foreign c.args.decls.now c.some
 pub returns-in-Some : goal.returns-in-Some
 returns-in-Some c =
     first_due c.args.foreign c.args.decls.now c.some_unbuilt.result c.in_ok-found.found.types c.in-Some.broken c.some_unbuilt.ensures c.if-some_unbuilt.false
-    c.in_ok-found.ensures.0 (sym c.in-Some.is ∙ c.in_ok-first_verdict.ensures)
+    c.in_ok-found.ensures.0 (sym c.in-Some.is ∙ c.in_ok-broken.ensures)
 
-pub returns-in-None : goal.returns-in-None
-returns-in-None c =
+pub returns : goal.returns
+returns c =
     later_due c.args.foreign c.args.decls.now c.some_unbuilt.result c.in_ok-found.found.types c.built_later.result c.some_unbuilt.ensures c.if-some_unbuilt.false
-    c.in_ok-found.ensures.0 (sym c.in-None.is ∙ c.in_ok-first_verdict.ensures) c.built_later.ensures
+    c.in_ok-found.ensures.0 (sym c.in-None.is ∙ c.in_ok-broken.ensures) c.built_later.ensures
