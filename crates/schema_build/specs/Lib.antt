@@ -1,0 +1,15 @@
+pub mod Least
+pub mod Parts
+pub mod Names
+pub mod Literal
+pub mod Reserved
+pub mod Unsupported
+pub mod Known
+pub mod Suits
+pub mod LinkProperties
+pub mod Local
+pub mod Twice
+pub mod Lineage
+pub mod Made
+pub mod Verdict
+pub mod Search
