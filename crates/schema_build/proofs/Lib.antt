@@ -5,3 +5,4 @@ pub mod SearchLaws
 pub mod BaseLaws
 pub mod VerdictLaws
 pub mod RepeatLaws
+pub mod ListLaws

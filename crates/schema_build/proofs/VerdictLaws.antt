@@ -1,16 +1,19 @@
 -- Each answer of the code is due.
-use Rattle.std.proofs.Common.{◌≡◌, ◌⊎◌, ℕ, Bool, true, false, List, [], Option, Some, None, Result, Ok, Err, inl, inr, refl, sym, subst, ◌∙◌}
+use Rattle.std.proofs.Common.{◌≡◌, ◌⊎◌, ℕ, Bool, true, false, List, [], Option, Some, None, Result, Ok, Err, inl, inr, refl, sym, ap, subst, ◌∙◌}
 use Rattle.std.specs.List.{list_any}
 use Rattle.core_ir.specs.declared.path.TypeId.{TypeId}
 use Rattle.ev_schema.specs.declared.schema.Schema.{Schema}
 use Rattle.sdl_ast.specs.declared.declaration.Decl.{Decl}
+use Rattle.sdl_ast.specs.declared.declaration.FilePart.{FilePart}
+use Rattle.sdl_ast.specs.declared.declaration.SdlFile.{SdlFile}
 use Rattle.schema_build.specs.declared.refusal.Broken.{Broken}
 use Rattle.schema_build.specs.declared.refusal.SchemaRefusal.{SchemaRefusal}
 use Rattle.schema_build.specs.declared.refusal.SchemaRefusal.TheVariants as refusal
 use Rattle.schema_build.specs.Lineage.{bases_of, AreLineages}
-use Rattle.schema_build.specs.Parts.{has_unbuilt}
+use Rattle.schema_build.specs.Least.{least_of}
+use Rattle.schema_build.specs.Parts.{decls_of, foreign_module, has_unbuilt}
 use Rattle.schema_build.specs.Twice.{type_names}
-use Rattle.schema_build.specs.Verdict.{first_verdict, later_verdict, schema_of, told, IsTold, IsDue, IsLater, IsAnswerOf}
+use Rattle.schema_build.specs.Verdict.{first_verdict, later_verdict, schema_of, told, IsTold, IsDue, IsLater, IsAnswerOf, IsAnswer}
 
 due_unbuilt : (b : Bool) (first : Option Broken) (ds : List Decl) (types : List (List ℕ)) → b ≡ true → IsDue b first ds types (Err refusal.Unbuilt)
 due_unbuilt true first ds types e = refl
@@ -47,3 +50,9 @@ later_due foreign ds b types r is passes names first (inl memory) = inl memory
 later_due foreign ds b types r is passes names first (inr answer) =
     subst (λ (ts : List (List ℕ)). (r ≡ Err refusal.Memory) ⊎ IsDue (list_any has_unbuilt ds) (first_verdict foreign ds ts) ds ts r) names
     (inr (due_later (list_any has_unbuilt ds) (first_verdict foreign ds types) ds types r (sym is ∙ passes) (sym first) answer))
+
+pub answered : (file : SdlFile) (parts : List FilePart) (ds given : List Decl) (foreign : Option ℕ) (r : Result Schema SchemaRefusal)
+    → parts ≡ file.parts → foreign ≡ least_of foreign_module parts → ds ≡ decls_of file.parts → given ≡ ds → IsAnswerOf foreign given r → IsAnswer file r
+answered file parts ds given foreign r all found declared same answer =
+    subst (λ (f : Option ℕ). IsAnswerOf f (decls_of file.parts) r) (found ∙ ap (least_of foreign_module) all)
+    (subst (λ (x : List Decl). IsAnswerOf foreign x r) (same ∙ declared) answer)
