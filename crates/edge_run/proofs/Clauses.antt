@@ -6,13 +6,15 @@ use Rattle.ev_io.specs.Sink.{SinkView, PutTakes, PutFails}
 use Rattle.ev_value.specs.declared.item.Fault.{Fault}
 use Rattle.edge_run.specs.Deliver.{Delivers, Tells, unwritten_of}
 use Rattle.edge_run.specs.Outcome.{line_of}
-use Rattle.edge_run.specs.Plan.{Plan, Goes, Verdict, Answers, Refuses, Faults, Missing, MayRefuse, Comes}
-use Rattle.edge_run.specs.Refusal.{Refusal, Usage, Query, TooLong, told}
-use Rattle.edge_run.specs.Run.{Runs, Over, IsRefusalDue, IsDue, IsAnswerDue, IsTold, IsCaused, Ends, Meets, IsComplete, IsAlong}
+use Rattle.edge_run.specs.Plan.{Plan, Goes, Verdict, Answers, Refuses, Faults, Missing, MayRefuse, MayRead, Comes}
+use Rattle.edge_run.specs.Refusal.{Refusal, Usage, TooLong, Schema, Data, Query, told}
+use Rattle.edge_run.specs.Run.{Runs, Over, IsRefusalDue, IsDue, IsAnswerDue, IsTold, IsCaused, IsComplete, IsAlong}
+use Rattle.edge_run.specs.Ends.{ComesTo, Serves}
 use Rattle.edge_run.specs.declared.outcome.Chan.TheVariants as chan
 use Rattle.edge_run.specs.declared.outcome.Doc.{Doc}
 use Rattle.edge_run.specs.declared.outcome.Outcome.{Outcome}
 use Rattle.edge_run.specs.declared.outcome.Outcome.TheVariants as outcome
+use Rattle.edge_run.proofs.Told.{told_same, told_not_memory, told_not_read, told_not_fault}
 use Rattle.edge_run.proofs.PlanLaws.{judged, Judged, possible, Possible, Follows, ReadFault, along}
 
 ok_not_err : (a : List ℕ) (o : Outcome) → ◌≡◌ {A = Result (List ℕ) Outcome} (Ok a) (Err o) → ⊥
@@ -23,32 +25,6 @@ err_is d o e = cc
 
 ok_is : (a b : List ℕ) → ◌≡◌ {A = Result (List ℕ) Outcome} (Ok a) (Ok b) → a ≡ b
 ok_is a b e = cc
-
-told_not_memory : (x : Refusal) → told x ≡ outcome.Memory → ⊥
-told_not_memory (Usage u) e = search rules
-told_not_memory (Query r) e = search rules
-told_not_memory (TooLong d) e = search rules
-
-told_not_read : (x : Refusal) (d : Doc) → told x ≡ outcome.ReadFault d → ⊥
-told_not_read (Usage u) d e = search rules
-told_not_read (Query r) d e = search rules
-told_not_read (TooLong t) d e = search rules
-
-told_not_fault : (x : Refusal) (f : Fault) → told x ≡ outcome.RunFault f → ⊥
-told_not_fault (Usage u) f e = search rules
-told_not_fault (Query r) f e = search rules
-told_not_fault (TooLong d) f e = search rules
-
-told_same : (x y : Refusal) → told x ≡ told y → x ≡ y
-told_same (Usage u) (Usage v) e = ap Usage (search rules)
-told_same (Usage u) (Query v) e = search rules
-told_same (Query u) (Usage v) e = search rules
-told_same (Query u) (Query v) e = ap Query (search rules)
-told_same (Usage u) (TooLong d) e = search rules
-told_same (Query u) (TooLong d) e = search rules
-told_same (TooLong d) (Usage v) e = search rules
-told_same (TooLong d) (Query v) e = search rules
-told_same (TooLong d) (TooLong c) e = ap TooLong (search rules)
 
 fault_not_memory : (f : Fault) → outcome.RunFault f ≡ outcome.Memory → ⊥
 fault_not_memory f e = search rules
@@ -63,7 +39,7 @@ fault_same f g e = search rules
 
 answers_of : (files : List ℕ → Option (List ℕ)) (p : Plan (List ℕ)) (text : List ℕ) (a b : ℕ) → Judged files p a (Ok text) b → Comes files p (Answers text)
 answers_of files p text a b (inl e) = absurd (ok_not_err _ _ e)
-answers_of files p text a b (inr (inl (d, e, rose))) = absurd (ok_not_err _ _ e)
+answers_of files p text a b (inr (inl (d, may, e, rose))) = absurd (ok_not_err _ _ e)
 answers_of files p text a b (inr (inr (Answers x, comes, e))) = subst (λ t. Comes files p (Answers t)) (sym (ok_is _ _ e)) comes
 answers_of files p text a b (inr (inr (Refuses x, comes, e))) = absurd (ok_not_err _ _ e)
 answers_of files p text a b (inr (inr (Faults fs, comes, (f, among, e)))) = absurd (ok_not_err _ _ e)
@@ -71,7 +47,7 @@ answers_of files p text a b (inr (inr (Missing d, comes, e))) = absurd e
 
 refuses_of : (files : List ℕ → Option (List ℕ)) (p : Plan (List ℕ)) (x : Refusal) (a b : ℕ) → Judged files p a (Err (told x)) b → Comes files p (Refuses x)
 refuses_of files p x a b (inl e) = absurd (told_not_memory x (err_is _ _ e))
-refuses_of files p x a b (inr (inl (d, e, rose))) = absurd (told_not_read x d (err_is _ _ e))
+refuses_of files p x a b (inr (inl (d, may, e, rose))) = absurd (told_not_read x d (err_is _ _ e))
 refuses_of files p x a b (inr (inr (Answers t, comes, e))) = absurd (ok_not_err _ _ (sym e))
 refuses_of files p x a b (inr (inr (Refuses y, comes, e))) = subst (λ z. Comes files p (Refuses z)) (sym (told_same x y (err_is _ _ e))) comes
 refuses_of files p x a b (inr (inr (Faults fs, comes, (f, among, e)))) = absurd (told_not_fault x f (err_is _ _ e))
@@ -80,7 +56,7 @@ refuses_of files p x a b (inr (inr (Missing d, comes, e))) = absurd e
 faults_of : (files : List ℕ → Option (List ℕ)) (p : Plan (List ℕ)) (f : Fault) (a b : ℕ) → Judged files p a (Err (outcome.RunFault f)) b
     → (fs : List Fault) × Comes files p (Faults fs) × Contains fs f
 faults_of files p f a b (inl e) = absurd (fault_not_memory f (err_is _ _ e))
-faults_of files p f a b (inr (inl (d, e, rose))) = absurd (fault_not_read f d (err_is _ _ e))
+faults_of files p f a b (inr (inl (d, may, e, rose))) = absurd (fault_not_read f d (err_is _ _ e))
 faults_of files p f a b (inr (inr (Answers t, comes, e))) = absurd (ok_not_err _ _ (sym e))
 faults_of files p f a b (inr (inr (Refuses y, comes, e))) = absurd (told_not_fault y f (sym (err_is _ _ e)))
 faults_of files p f a b (inr (inr (Faults fs, comes, (g, among, e)))) = (fs, comes, subst (λ x. Contains fs x) (sym (fault_same f g (err_is _ _ e))) among)
@@ -107,6 +83,10 @@ module _ (plan : Plan (List ℕ)) (shelf shelf' : ShelfView) (out out' err err' 
   due_caused (outcome.ReadFault d) due same (inr (is, failed)) = subst Caused (sym is) (same, outcome.ReadFault d, due, failed)
   due_caused (outcome.TooLong d) due same (inl (is, took)) = subst Caused (sym is) (due, (same, took))
   due_caused (outcome.TooLong d) due same (inr (is, failed)) = subst Caused (sym is) (same, outcome.TooLong d, due, failed)
+  due_caused (outcome.SchemaRefused r) due same (inl (is, took)) = subst Caused (sym is) (due, (same, took))
+  due_caused (outcome.SchemaRefused r) due same (inr (is, failed)) = subst Caused (sym is) (same, outcome.SchemaRefused r, due, failed)
+  due_caused (outcome.DataRefused b) due same (inl (is, took)) = subst Caused (sym is) (due, (same, took))
+  due_caused (outcome.DataRefused b) due same (inr (is, failed)) = subst Caused (sym is) (same, outcome.DataRefused b, due, failed)
   due_caused (outcome.QueryRefused r) due same (inl (is, took)) = subst Caused (sym is) (due, (same, took))
   due_caused (outcome.QueryRefused r) due same (inr (is, failed)) = subst Caused (sym is) (same, outcome.QueryRefused r, due, failed)
   due_caused (outcome.RunFault f) due same (inl (is, took)) = subst Caused (sym is) (due, (same, took))
@@ -116,15 +96,21 @@ module _ (plan : Plan (List ℕ)) (shelf shelf' : ShelfView) (out out' err err' 
   memory_caused same (inl (is, took)) = subst Caused (sym is) (same, inl took)
   memory_caused same (inr (is, failed)) = subst Caused (sym is) (same, inr failed)
 
+  -- the rule that was told refuses what the names hold
+  refuses_held : (x : Refusal) → Goes plan shelf (Err (told x)) shelf' → Over shelf (λ files. Comes files plan (Refuses x))
+  refuses_held x went files held = refuses_of files plan x _ _ (judged plan shelf shelf' _ files went held)
+
   refusal_caused : (x : Refusal) → MayRefuse plan x → Goes plan shelf (Err (told x)) shelf' → out' ≡ out → Line (told x) → Caused result
-  refusal_caused (Usage u) may went same line = due_caused (outcome.Usage u) (may, λ files held. refuses_of files plan (Usage u) _ _ (judged plan shelf shelf' _ files went held)) same line
-  refusal_caused (Query r) may went same line = due_caused (outcome.QueryRefused r) (may, λ files held. refuses_of files plan (Query r) _ _ (judged plan shelf shelf' _ files went held)) same line
-  refusal_caused (TooLong d) may went same line = due_caused (outcome.TooLong d) (may, λ files held. refuses_of files plan (TooLong d) _ _ (judged plan shelf shelf' _ files went held)) same line
+  refusal_caused (Usage u) may went same line = due_caused (outcome.Usage u) (may, refuses_held (Usage u) went) same line
+  refusal_caused (TooLong d) may went same line = due_caused (outcome.TooLong d) (may, refuses_held (TooLong d) went) same line
+  refusal_caused (Schema r) may went same line = due_caused (outcome.SchemaRefused r) (may, refuses_held (Schema r) went) same line
+  refusal_caused (Data b) may went same line = due_caused (outcome.DataRefused b) (may, refuses_held (Data b) went) same line
+  refusal_caused (Query r) may went same line = due_caused (outcome.QueryRefused r) (may, refuses_held (Query r) went) same line
 
   -- what was answered, in its kind
   err_caused : (o : Outcome) → Goes plan shelf (Err o) shelf' → out' ≡ out → Line o → Possible plan shelf.faults (Err o) shelf'.faults → Caused result
   err_caused o went same line (inl e) = memory_caused same (subst Line (err_is _ _ e) line)
-  err_caused o went same line (inr (inl (d, e, rose))) = due_caused (outcome.ReadFault d) rose same (subst Line (err_is _ _ e) line)
+  err_caused o went same line (inr (inl (d, may, e, rose))) = due_caused (outcome.ReadFault d) (may, rose) same (subst Line (err_is _ _ e) line)
   err_caused o went same line (inr (inr (inl (t, e)))) = absurd (ok_not_err _ _ (sym e))
   err_caused o went same line (inr (inr (inr (inl (x, may, e))))) =
       refusal_caused x may (subst (λ p. Goes plan shelf (Err p) shelf') (err_is _ _ e) went) same (subst Line (err_is _ _ e) line)
@@ -155,21 +141,24 @@ module _ (plan : Plan (List ℕ)) (shelf shelf' : ShelfView) (out out' err err' 
   or_memory f (inl e) = inl e
   or_memory f (inr b) = inr (f b)
 
-  ends : (o : Outcome) → unwritten_of o ≡ outcome.WriteFault chan.Err → Delivers (Err o) out out' err err' result → OrMemory (Ends plan shelf shelf' out out' err err' result o)
-  ends o other (same, inl (inl (is, took))) = inr (inl (is, (same, took)))
-  ends o other (same, inl (inr (is, failed))) = inr (inr (is ∙ other, failed))
+  ends : (o : Outcome) → unwritten_of o ≡ outcome.WriteFault chan.Err → Delivers (Err o) out out' err err' result → OrMemory (ComesTo out out' err err' result o)
+  ends o other (same, inl (inl (is, took))) = inr (inl (is, same, took))
+  ends o other (same, inl (inr (is, failed))) = inr (inr (is ∙ other, same, failed))
   ends o other (same, inr line) = inl (memory_told line)
 
   unwritten_told : (x : Refusal) → unwritten_of (told x) ≡ outcome.WriteFault chan.Err
   unwritten_told (Usage u) = refl
-  unwritten_told (Query r) = refl
   unwritten_told (TooLong d) = refl
+  unwritten_told (Schema r) = refl
+  unwritten_told (Data b) = refl
+  unwritten_told (Query r) = refl
 
-  answered : (text : List ℕ) → Delivers (Ok text) out out' err err' result → Meets plan shelf shelf' out out' err err' result (Answers text)
-  answered text (same, line) = line
+  answered : (text : List ℕ) → Delivers (Ok text) out out' err err' result → Serves out out' err err' result (Answers text)
+  answered text (same, inl (is, took)) = inl (is, same, took)
+  answered text (same, inr (is, failed)) = inr (is, same, failed)
 
   met : (v : Verdict (List ℕ)) (answer : Result (List ℕ) Outcome) → Follows v answer → Delivers answer out out' err err' result
-      → OrMemory (Meets plan shelf shelf' out out' err err' result v)
+      → OrMemory (Serves out out' err err' result v)
   met (Answers text) answer e delivered = inr (answered text (subst (λ a. Delivers a out out' err err' result) e delivered))
   met (Refuses x) answer e delivered = ends (told x) (unwritten_told x) (subst (λ a. Delivers a out out' err err' result) e delivered)
   met (Faults fs) answer (f, among, e) delivered =
@@ -182,11 +171,11 @@ module _ (plan : Plan (List ℕ)) (shelf shelf' : ShelfView) (out out' err err' 
 
   complete_at : (files : List ℕ → Option (List ℕ)) (answer : Result (List ℕ) Outcome) → Judged files plan shelf.faults answer shelf'.faults
       → Delivers answer out out' err err' result
-      → OrMemory ((Rose shelf.faults shelf'.faults × (d : Doc) × Ends plan shelf shelf' out out' err err' result (outcome.ReadFault d))
-      ⊎ ((v : Verdict (List ℕ)) × Comes files plan v × Meets plan shelf shelf' out out' err err' result v))
+      → OrMemory ((Rose shelf.faults shelf'.faults × (d : Doc) × MayRead plan d × ComesTo out out' err err' result (outcome.ReadFault d))
+      ⊎ ((v : Verdict (List ℕ)) × Comes files plan v × Serves out out' err err' result v))
   complete_at files answer (inl e) delivered = inl (memory_is (subst (λ a. Delivers a out out' err err' result) e delivered))
-  complete_at files answer (inr (inl (d, e, rose))) delivered =
-      or_memory (λ end. inl (rose, d, end)) (ends (outcome.ReadFault d) refl (subst (λ a. Delivers a out out' err err' result) e delivered))
+  complete_at files answer (inr (inl (d, may, e, rose))) delivered =
+      or_memory (λ end. inl (rose, d, may, end)) (ends (outcome.ReadFault d) refl (subst (λ a. Delivers a out out' err err' result) e delivered))
   complete_at files answer (inr (inr (v, comes, e))) delivered = or_memory (λ meets. inr (v, comes, meets)) (met v answer e delivered)
 
   pub complete : Runs plan shelf shelf' out out' err err' result → IsComplete plan shelf shelf' out out' err err' result

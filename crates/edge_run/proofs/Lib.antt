@@ -1,6 +1,13 @@
 pub mod Answered
 pub mod Clauses
-pub mod ConstLaws
+pub mod DataLaws
 pub mod Decisions
 pub mod HeadlineLaws
+pub mod LimitLaws
+pub mod Lineages
 pub mod PlanLaws
+pub mod QueryLaws
+pub mod SchemaLaws
+pub mod TaskLaws
+pub mod Told
+pub mod WordLaws

@@ -3,10 +3,9 @@ use Rattle.std.proofs.Common.{◌≡◌, ℕ, ◌≤◌, List, [], ◌∷◌, �
 use Rattle.ev_value.specs.declared.item.Fault.{Fault}
 use Rattle.ev_io.specs.Count.{Rose}
 use Rattle.ev_io.specs.Shelf.{ShelfView, Quiet, Calm, Call, call_of}
-use Rattle.const_ir.specs.declared.expr.Expr.{Expr}
-use Rattle.edge_run.specs.Plan.{Plan, Answer, Refuse, Fail, Read, Judge, ◌>>=◌, Goes, Stops, ruled, Verdict, Comes, IfHeld, Along, MayRefuse}
+use Rattle.edge_run.specs.Plan.{Plan, Answer, Refuse, Fail, Read, Judge, ◌>>=◌, Goes, Stops, ruled, Verdict, Comes, IfHeld, Along, MayRefuse, MayRead}
 use Rattle.edge_run.specs.Plan as verdict_of
-use Rattle.edge_run.specs.Query.{Decides, IsDecided}
+use Rattle.edge_run.specs.Judgement.{Judgement, Matter, Decides, IsDecided}
 use Rattle.edge_run.specs.Refusal.{Refusal, told}
 use Rattle.edge_run.specs.declared.outcome.Doc.{Doc}
 use Rattle.edge_run.specs.declared.outcome.Outcome.{Outcome}
@@ -29,7 +28,7 @@ stopped (Answer a) old new r s = inl s
 stopped (Refuse x) old new r s = inl s
 stopped (Fail fs) old new r s = inl s
 stopped (Read d name most next) old new r s = inl s
-stopped (Judge text next) old new r s = inl s
+stopped (Judge j text next) old new r s = inl s
 
 pub refused : (A : Type 0) (x : Refusal) (s : ShelfView) → Goes {A = A} (Refuse x) s (Err (told x)) s
 unfolding Goes
@@ -48,8 +47,8 @@ then_ok (Read d name most next) f old mid new a r (inl s) later = absurd (ok_not
 then_ok (Read d name most next) f old mid new a r (inr (inl s)) later = absurd (ok_not_err _ _ s.0)
 then_ok (Read d name most next) f old mid new a r (inr (inr (bytes, far, reads, first))) later =
     inr (inr (bytes, far, reads, then_ok (next bytes) f far mid new a r first later))
-then_ok (Judge text next) f old mid new a r (inl s) later = absurd (ok_not_err _ _ s.0)
-then_ok (Judge text next) f old mid new a r (inr (decided, is, first)) later = inr (decided, is, then_ok (next decided) f old mid new a r first later)
+then_ok (Judge j text next) f old mid new a r (inl s) later = absurd (ok_not_err _ _ s.0)
+then_ok (Judge j text next) f old mid new a r (inr (decided, is, first)) later = inr (decided, is, then_ok (next decided) f old mid new a r first later)
 
 pub then_err : {A B : Type 0} (p : Plan A) (f : A → Plan B) (old new : ShelfView) (o : Outcome) → Goes p old (Err o) new → Goes (p >>= f) old (Err o) new
 unfolding Goes ◌>>=◌
@@ -62,18 +61,24 @@ then_err (Fail fs) f old new o (inr (g, among, e, is)) = inr (g, among, ap Err (
 then_err (Read d name most next) f old new o (inl s) = inl (ap Err (err_is _ _ s.0), s.1)
 then_err (Read d name most next) f old new o (inr (inl s)) = inr (inl (ap Err (err_is _ _ s.0), s.1))
 then_err (Read d name most next) f old new o (inr (inr (bytes, mid, reads, first))) = inr (inr (bytes, mid, reads, then_err (next bytes) f mid new o first))
-then_err (Judge text next) f old new o (inl s) = inl (ap Err (err_is _ _ s.0), s.1)
-then_err (Judge text next) f old new o (inr (decided, is, first)) = inr (decided, is, then_err (next decided) f old new o first)
+then_err (Judge j text next) f old new o (inl s) = inl (ap Err (err_is _ _ s.0), s.1)
+then_err (Judge j text next) f old new o (inr (decided, is, first)) = inr (decided, is, then_err (next decided) f old new o first)
 
 -- a rule that the code decides takes no reading
 pub quiet : (s : ShelfView) → Quiet s s
 quiet s = record { holds = refl; call = refl; calm = record { keeps = omega arith; still = λ made e. refl } }
 
-pub judged_goes : (text : List ℕ) (r : Result Expr Outcome) (s : ShelfView) → IsDecided text r → Goes (Judge text ruled) s r s
+pub judged_goes : (j : Judgement) (text : List ℕ) (r : Result (Matter j) Outcome) (s : ShelfView) → IsDecided j text r → Goes (Judge j text ruled) s r s
 unfolding Goes ruled
-judged_goes text r s (inl e) = inl (e, quiet s)
-judged_goes text r s (inr (Ok a, is, e)) = inr (Ok a, is, inr (e, refl))
-judged_goes text r s (inr (Err x, is, e)) = inr (Err x, is, inr (e, refl))
+judged_goes j text r s (inl e) = inl (e, quiet s)
+judged_goes j text r s (inr (Ok a, is, e)) = inr (Ok a, is, inr (e, refl))
+judged_goes j text r s (inr (Err x, is, e)) = inr (Err x, is, inr (e, refl))
+
+-- what was made in memory of its own is the answer, unless there was none
+pub made_goes : {A : Type 0} (a : A) (r : Result A Outcome) (s : ShelfView) → (r ≡ Ok a) ⊎ (r ≡ Err outcome.Memory) → Goes (Answer a) s r s
+unfolding Goes
+made_goes a r s (inl e) = inr (e, refl)
+made_goes a r s (inr e) = inl (e, quiet s)
 
 -- ---- what is answered
 
@@ -90,12 +95,12 @@ Follows (verdict_of.Refuses x) r = r ≡ Err (told x)
 Follows (verdict_of.Faults fs) r = (f : Fault) × Contains fs f × (r ≡ Err (outcome.RunFault f))
 Follows (verdict_of.Missing d) r = ⊥
 
-abbrev pub ReadFault : {A : Type 0} → ℕ → Result A Outcome → ℕ → Type 0
-ReadFault before r after = (d : Doc) × (r ≡ Err (outcome.ReadFault d)) × Rose before after
+abbrev pub ReadFault : {A : Type 0} → Plan A → ℕ → Result A Outcome → ℕ → Type 0
+ReadFault p before r after = (d : Doc) × MayRead p d × (r ≡ Err (outcome.ReadFault d)) × Rose before after
 
 abbrev pub Judged : {A : Type 0} → (List ℕ → Option (List ℕ)) → Plan A → ℕ → Result A Outcome → ℕ → Type 0
 Judged {A} files p before r after =
-    (r ≡ Err outcome.Memory) ⊎ (ReadFault before r after ⊎ ((v : Verdict A) × Comes files p v × Follows v r))
+    (r ≡ Err outcome.Memory) ⊎ (ReadFault p before r after ⊎ ((v : Verdict A) × Comes files p v × Follows v r))
 
 found_is : (most : ℕ) (bytes : List ℕ) (missing : Type 0) (claim : List ℕ → Type 0) (o : Option (List ℕ)) → option_map (take most) o ≡ Some bytes → claim bytes
     → IfHeld missing (λ all. claim (take most all)) o
@@ -108,23 +113,23 @@ later_rose a b c le rose = omega arith
 -- what holds from behind a read on, or from behind a decision on, holds for the whole
 from_read : {A : Type 0} (files : List ℕ → Option (List ℕ)) (d : Doc) (name : List ℕ) (most : ℕ) (next : List ℕ → Plan A) (bytes : List ℕ) (old mid new : ℕ)
     (r : Result A Outcome) → option_map (take most) (files name) ≡ Some bytes → old ≤ mid → Judged files (next bytes) mid r new → Judged files (Read d name most next) old r new
-unfolding Comes
+unfolding Comes MayRead
 from_read files d name most next bytes old mid new r found le (inl m) = inl m
-from_read files d name most next bytes old mid new r found le (inr (inl (e, is, rose))) = inr (inl (e, is, later_rose old mid new le rose))
+from_read files d name most next bytes old mid new r found le (inr (inl (e, may, is, rose))) = inr (inl (e, inr (bytes, may), is, later_rose old mid new le rose))
 from_read files d name most next bytes old mid new r found le (inr (inr (v, comes, follows))) =
     inr (inr (v, found_is most bytes (v ≡ verdict_of.Missing d) (λ b. Comes files (next b) v) (files name) found comes, follows))
 
-from_decision : {A : Type 0} (files : List ℕ → Option (List ℕ)) (text : List ℕ) (next : Result Expr Refusal → Plan A) (decided : Result Expr Refusal) (old new : ℕ)
-    (r : Result A Outcome) → Decides text decided → Judged files (next decided) old r new → Judged files (Judge text next) old r new
-unfolding Comes
-from_decision files text next decided old new r is (inl m) = inl m
-from_decision files text next decided old new r is (inr (inl fault)) = inr (inl fault)
-from_decision files text next decided old new r is (inr (inr (v, comes, follows))) = inr (inr (v, (decided, is, comes), follows))
+from_decision : {A : Type 0} (files : List ℕ → Option (List ℕ)) (j : Judgement) (text : List ℕ) (next : Result (Matter j) Refusal → Plan A) (decided : Result (Matter j) Refusal) (old new : ℕ)
+    (r : Result A Outcome) → Decides j text decided → Judged files (next decided) old r new → Judged files (Judge j text next) old r new
+unfolding Comes MayRead
+from_decision files j text next decided old new r is (inl m) = inl m
+from_decision files j text next decided old new r is (inr (inl (e, may, is', rose))) = inr (inl (e, (decided, is, may), is', rose))
+from_decision files j text next decided old new r is (inr (inr (v, comes, follows))) = inr (inr (v, (decided, is, comes), follows))
 
 -- over what the names hold, the answer follows what the plan comes to, but for want of memory and failed reads
 pub judged : {A : Type 0} (p : Plan A) (old new : ShelfView) (r : Result A Outcome) (files : List ℕ → Option (List ℕ)) → Goes p old r new → old.held ≡ Some files
     → Judged files p old.faults r new.faults
-unfolding Goes Comes
+unfolding Goes Comes MayRead
 judged (Answer a) old new r files (inl s) held = inl s.0
 judged (Answer a) old new r files (inr (e, is)) held = inr (inr (verdict_of.Answers a, refl, e))
 judged (Refuse x) old new r files (inl s) held = inl s.0
@@ -132,13 +137,13 @@ judged (Refuse x) old new r files (inr (e, is)) held = inr (inr (verdict_of.Refu
 judged (Fail fs) old new r files (inl s) held = inl s.0
 judged (Fail fs) old new r files (inr (f, among, e, is)) held = inr (inr (verdict_of.Faults fs, refl, (f, among, e)))
 judged (Read d name most next) old new r files (inl s) held = inl s.0
-judged (Read d name most next) old new r files (inr (inl s)) held = inr (inl (d, s.0, s.1.rose))
+judged (Read d name most next) old new r files (inr (inl s)) held = inr (inl (d, inl refl, s.0, s.1.rose))
 judged (Read d name most next) old new r files (inr (inr (bytes, mid, reads, later))) held =
     from_read files d name most next bytes old.faults mid.faults new.faults r (reads.found files held) reads.calm.keeps
     (judged (next bytes) mid new r files later (reads.holds ∙ held))
-judged (Judge text next) old new r files (inl s) held = inl s.0
-judged (Judge text next) old new r files (inr (decided, is, later)) held =
-    from_decision files text next decided old.faults new.faults r is (judged (next decided) old new r files later held)
+judged (Judge j text next) old new r files (inl s) held = inl s.0
+judged (Judge j text next) old new r files (inr (decided, is, later)) held =
+    from_decision files j text next decided old.faults new.faults r is (judged (next decided) old new r files later held)
 
 both_held : (missing missing' : Type 0) (claim claim' : List ℕ → Type 0) (R : Type 0) → (missing → missing' → R) → ((all : List ℕ) → claim all → claim' all → R)
     → (o : Option (List ℕ)) → IfHeld missing claim o → IfHeld missing' claim' o → R
@@ -154,35 +159,35 @@ one_verdict (Fail fs) files v w c d = c ∙ sym d
 one_verdict (Read doc name most next) files v w c d =
     both_held _ _ (λ bytes. Comes files (next (take most bytes)) v) (λ bytes. Comes files (next (take most bytes)) w) (v ≡ w) (λ a b. a ∙ sym b)
     (λ all a b. one_verdict (next (take most all)) files v w a b) (files name) c d
-one_verdict (Judge text next) files v w (r, is, c) (q, is', d) =
-    one_verdict (next r) files v w c (subst (λ x. Comes files (next x) w) (sym (one_decision text r q is is')) d)
+one_verdict (Judge j text next) files v w (r, is, c) (q, is', d) =
+    one_verdict (next r) files v w c (subst (λ x. Comes files (next x) w) (sym (one_decision j text r q is is')) d)
 
 -- what is answered, whatever the shelf tells
 abbrev pub Possible : {A : Type 0} → Plan A → ℕ → Result A Outcome → ℕ → Type 0
 Possible {A} p before r after =
-    (r ≡ Err outcome.Memory) ⊎ (ReadFault before r after ⊎ (((a : A) × (r ≡ Ok a))
+    (r ≡ Err outcome.Memory) ⊎ (ReadFault p before r after ⊎ (((a : A) × (r ≡ Ok a))
     ⊎ (((x : Refusal) × MayRefuse p x × (r ≡ Err (told x))) ⊎ ((f : Fault) × (r ≡ Err (outcome.RunFault f))))))
 
 behind_read : {A : Type 0} (d : Doc) (name : List ℕ) (most : ℕ) (next : List ℕ → Plan A) (bytes : List ℕ) (r : Result A Outcome) (old mid new : ℕ) → old ≤ mid
     → Possible (next bytes) mid r new → Possible (Read d name most next) old r new
-unfolding MayRefuse
+unfolding MayRefuse MayRead
 behind_read d name most next bytes r old mid new le (inl m) = inl m
-behind_read d name most next bytes r old mid new le (inr (inl (e, is, rose))) = inr (inl (e, is, later_rose old mid new le rose))
+behind_read d name most next bytes r old mid new le (inr (inl (e, may, is, rose))) = inr (inl (e, inr (bytes, may), is, later_rose old mid new le rose))
 behind_read d name most next bytes r old mid new le (inr (inr (inl a))) = inr (inr (inl a))
 behind_read d name most next bytes r old mid new le (inr (inr (inr (inl (x, may, is))))) = inr (inr (inr (inl (x, (bytes, may), is))))
 behind_read d name most next bytes r old mid new le (inr (inr (inr (inr f)))) = inr (inr (inr (inr f)))
 
-behind_decision : {A : Type 0} (text : List ℕ) (next : Result Expr Refusal → Plan A) (decided : Result Expr Refusal) (r : Result A Outcome) (old new : ℕ) → Decides text decided
-    → Possible (next decided) old r new → Possible (Judge text next) old r new
-unfolding MayRefuse
-behind_decision text next decided r old new is (inl m) = inl m
-behind_decision text next decided r old new is (inr (inl fault)) = inr (inl fault)
-behind_decision text next decided r old new is (inr (inr (inl a))) = inr (inr (inl a))
-behind_decision text next decided r old new is (inr (inr (inr (inl (x, may, e))))) = inr (inr (inr (inl (x, (decided, is, may), e))))
-behind_decision text next decided r old new is (inr (inr (inr (inr f)))) = inr (inr (inr (inr f)))
+behind_decision : {A : Type 0} (j : Judgement) (text : List ℕ) (next : Result (Matter j) Refusal → Plan A) (decided : Result (Matter j) Refusal) (r : Result A Outcome) (old new : ℕ) → Decides j text decided
+    → Possible (next decided) old r new → Possible (Judge j text next) old r new
+unfolding MayRefuse MayRead
+behind_decision j text next decided r old new is (inl m) = inl m
+behind_decision j text next decided r old new is (inr (inl (e, may, is', rose))) = inr (inl (e, (decided, is, may), is', rose))
+behind_decision j text next decided r old new is (inr (inr (inl a))) = inr (inr (inl a))
+behind_decision j text next decided r old new is (inr (inr (inr (inl (x, may, e))))) = inr (inr (inr (inl (x, (decided, is, may), e))))
+behind_decision j text next decided r old new is (inr (inr (inr (inr f)))) = inr (inr (inr (inr f)))
 
 pub possible : {A : Type 0} (p : Plan A) (old new : ShelfView) (r : Result A Outcome) → Goes p old r new → Possible p old.faults r new.faults
-unfolding Goes MayRefuse
+unfolding Goes MayRefuse MayRead
 possible (Answer a) old new r (inl s) = inl s.0
 possible (Answer a) old new r (inr (e, is)) = inr (inr (inl (a, e)))
 possible (Refuse x) old new r (inl s) = inl s.0
@@ -190,11 +195,11 @@ possible (Refuse x) old new r (inr (e, is)) = inr (inr (inr (inl (x, refl, e))))
 possible (Fail fs) old new r (inl s) = inl s.0
 possible (Fail fs) old new r (inr (f, among, e, is)) = inr (inr (inr (inr (f, e))))
 possible (Read d name most next) old new r (inl s) = inl s.0
-possible (Read d name most next) old new r (inr (inl s)) = inr (inl (d, s.0, s.1.rose))
+possible (Read d name most next) old new r (inr (inl s)) = inr (inl (d, inl refl, s.0, s.1.rose))
 possible (Read d name most next) old new r (inr (inr (bytes, mid, reads, later))) =
     behind_read d name most next bytes r old.faults mid.faults new.faults reads.calm.keeps (possible (next bytes) mid new r later)
-possible (Judge text next) old new r (inl s) = inl s.0
-possible (Judge text next) old new r (inr (decided, is, later)) = behind_decision text next decided r old.faults new.faults is (possible (next decided) old new r later)
+possible (Judge j text next) old new r (inl s) = inl s.0
+possible (Judge j text next) old new r (inr (decided, is, later)) = behind_decision j text next decided r old.faults new.faults is (possible (next decided) old new r later)
 
 -- ---- the calls
 
@@ -224,5 +229,5 @@ along (Read d name most next) old new r (inr (inr (bytes, mid, reads, later))) =
       inr (inr (bytes, rest.0, refl, rest.1)),
       rest.2 ∙ ap (option_map (λ cs. cs ++ rest.0)) reads.call ∙ one_more old.calls (call_of name false) rest.0,
     )
-along (Judge text next) old new r (inl s) = ([], inl (refl, s.0), s.1.call ∙ sym (no_more old.calls))
-along (Judge text next) old new r (inr (decided, is, later)) = let rest = along (next decided) old new r later in (rest.0, inr (decided, is, rest.1), rest.2)
+along (Judge j text next) old new r (inl s) = ([], inl (refl, s.0), s.1.call ∙ sym (no_more old.calls))
+along (Judge j text next) old new r (inr (decided, is, later)) = let rest = along (next decided) old new r later in (rest.0, inr (decided, is, rest.1), rest.2)

@@ -1,9 +1,16 @@
+pub mod Data
 pub mod Deliver
+pub mod Due
+pub mod Ends
 pub mod Evaluate
 pub mod Headline
+pub mod Judgement
+pub mod Limits
 pub mod Modes
 pub mod Outcome
 pub mod Plan
 pub mod Query
 pub mod Refusal
 pub mod Run
+pub mod Schema
+pub mod Task

@@ -1,23 +1,29 @@
 -- What each mode reads and decides.
-use Rattle.std.specs.Prelude.{◌≡◌, ℕ, ◌+◌, if◌then◌else◌, List, [], ◌∷◌, ◌++◌, length, Result, Ok, Err, Option, Some, None, codes}
+use Rattle.std.specs.Prelude.{◌≡◌, ℕ, ◌+◌, if◌then◌else◌, List, [], ◌∷◌, ◌++◌, length, Option, Some, None, codes, decimal}
 use Rattle.std.specs.Str.{bytes_eq}
 use Rattle.const_ir.specs.Meaning.{items}
-use Rattle.const_ir.specs.declared.expr.Expr.{Expr}
+use Rattle.ev_schema.specs.declared.schema.Schema.{Schema}
 use Rattle.ev_value.specs.Item.{has_fault, faults, values}
 use Rattle.ev_value.specs.JsonText.{json_text}
 use Rattle.ev_value.specs.Nested.{answer_form}
 use Rattle.ev_value.specs.declared.item.Fault.{Fault}
 use Rattle.ev_value.specs.declared.item.Item.{Item}
 use Rattle.ev_value.specs.declared.value.Val.{Val}
+use Rattle.store_check.specs.declared.store.Store.{Store}
+use Rattle.edge_run.specs.Judgement.{Judgement, AsSchema, AsData, AsConst, Matter, doc_of}
+use Rattle.edge_run.specs.Limits.{limit_of}
 use Rattle.edge_run.specs.Plan.{Plan, Answer, Refuse, Fail, Read, Judge, ◌>>=◌, ruled}
-use Rattle.edge_run.specs.Query.{query_limit}
 use Rattle.edge_run.specs.Refusal.{Refusal, Usage}
-use Rattle.edge_run.specs.declared.outcome.Doc.TheVariants as doc
+use Rattle.edge_run.specs.declared.outcome.Doc.{Doc}
 use Rattle.edge_run.specs.declared.outcome.UsageRule.TheVariants as rule
 
 -- the whole of a document; one byte more than its limit is asked for, so that a longer one shows itself
-abbrev pub query_document : List ℕ → Plan (List ℕ)
-query_document name = Read doc.Query name (query_limit + 1) (λ text. Answer text)
+abbrev pub document : Doc → List ℕ → Plan (List ℕ)
+document d name = Read d name (limit_of d + 1) (λ text. Answer text)
+
+-- a document, judged
+unfoldable pub judged_document : (j : Judgement) → List ℕ → Plan (Matter j)
+judged_document j name = document (doc_of j) name >>= (λ text. Judge j text ruled)
 
 -- the text of an answer: the JSON array of its values, and a line feed
 abbrev pub answer_text : List Val → List ℕ
@@ -32,17 +38,31 @@ IsFirst (Some f) fs = (more : List Fault) × (fs ≡ f ∷ more)
 unfoldable pub answered : List (Item Val) → Plan (List ℕ)
 answered xs = if has_fault xs then Fail (faults xs) else Answer (answer_text (values xs))
 
+-- how many types, abstract ones too, and how many objects there are
+abbrev pub census : Schema → Store → List ℕ
+census schema store = codes "types " ++ decimal (length schema.types) ++ codes " objects " ++ decimal (length store.objects) ++ codes "\n"
+
 -- mode `const`: the query alone, over no objects and no arguments
-unfoldable pub query_plan : List ℕ → Plan Expr
-query_plan name = query_document name >>= (λ text. Judge text ruled)
-
 unfoldable pub const_plan : List ℕ → Plan (List ℕ)
-const_plan name = query_plan name >>= (λ query. answered (items query))
+const_plan name = judged_document AsConst name >>= (λ query. answered (items query))
 
-abbrev pub mode_plan : List ℕ → List ℕ → Plan (List ℕ)
-mode_plan mode query = if bytes_eq mode (codes "const") then const_plan query else Refuse (Usage rule.U2)
+-- data, once its schema is known, counted
+unfoldable pub counted_plan : Schema → List ℕ → Plan (List ℕ)
+counted_plan schema name = judged_document (AsData schema) name >>= (λ store. Answer (census schema store))
 
--- the words MODE, SCHEMA, DATA and QUERY, and nothing more
+-- mode `check`: the schema and the data
+unfoldable pub check_plan : List ℕ → List ℕ → Plan (List ℕ)
+check_plan schema_name data_name = judged_document AsSchema schema_name >>= (λ schema. counted_plan schema data_name)
+
+-- the mode, over the names of a schema, of data and of a query
+abbrev pub mode_plan : List ℕ → List ℕ → List ℕ → List ℕ → Plan (List ℕ)
+mode_plan mode schema_name data_name query =
+    if bytes_eq mode (codes "const") then const_plan query
+    else (if bytes_eq mode (codes "check") then check_plan schema_name data_name else Refuse (Usage rule.U2))
+
+-- the words MODE, SCHEMA, DATA and QUERY, and behind them nothing, or `--args` and one word
 abbrev pub plan_of : List (List ℕ) → Plan (List ℕ)
-plan_of (mode ∷ schema ∷ data_word ∷ query ∷ []) = mode_plan mode query
+plan_of (mode ∷ schema_name ∷ data_name ∷ query ∷ []) = mode_plan mode schema_name data_name query
+plan_of (mode ∷ schema_name ∷ data_name ∷ query ∷ option ∷ args ∷ []) =
+    if bytes_eq option (codes "--args") then mode_plan mode schema_name data_name query else Refuse (Usage rule.U1)
 plan_of _ = Refuse (Usage rule.U1)

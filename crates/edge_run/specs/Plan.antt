@@ -1,23 +1,22 @@
 -- What a run reads and decides, in its order.
 use Rattle.std.specs.Prelude.{◌≡◌, ℕ, List, [], ◌∷◌, take, Option, Some, None, Result, Ok, Err, ◌⊎◌, Bool, true, false, Contains}
-use Rattle.const_ir.specs.declared.expr.Expr.{Expr}
 use Rattle.ev_io.specs.Count.{Rose}
 use Rattle.ev_io.specs.Shelf.{Call, call_of, ShelfView, Quiet, ReadGives, ReadFails}
 use Rattle.ev_value.specs.declared.item.Fault.{Fault}
-use Rattle.edge_run.specs.Query.{Decides}
+use Rattle.edge_run.specs.Judgement.{Judgement, Matter, Decides}
 use Rattle.edge_run.specs.Refusal.{Refusal, told}
 use Rattle.edge_run.specs.declared.outcome.Doc.{Doc}
 use Rattle.edge_run.specs.declared.outcome.Outcome.{Outcome}
 use Rattle.edge_run.specs.declared.outcome.Outcome.TheVariants as outcome
 
--- An answer, a refusal, faults of which any may be told, a document to read up to a number of bytes and how to go on, or a query
--- text to decide and how to go on.
+-- An answer, a refusal, faults of which any may be told, a document to read up to a number of bytes and how to go on, or a text to
+-- judge and how to go on.
 pub data Plan (A : Type 0) : Type 0 where
   Answer : A → Plan A
   Refuse : Refusal → Plan A
   Fail : List Fault → Plan A
   Read : Doc → List ℕ → ℕ → (List ℕ → Plan A) → Plan A
-  Judge : List ℕ → (Result Expr Refusal → Plan A) → Plan A
+  Judge : (j : Judgement) → List ℕ → (Result (Matter j) Refusal → Plan A) → Plan A
 
 infixl 20 ◌>>=◌
 -- one plan, and then another over its answer
@@ -26,7 +25,7 @@ Answer a >>= f = f a
 Refuse r >>= f = Refuse r
 Fail fs >>= f = Fail fs
 Read d name most next >>= f = Read d name most (λ bytes. next bytes >>= f)
-Judge text next >>= f = Judge text (λ decided. next decided >>= f)
+Judge j text next >>= f = Judge j text (λ decided. next decided >>= f)
 
 -- what was decided
 unfoldable pub ruled : {A : Type 0} → Result A Refusal → Plan A
@@ -51,7 +50,7 @@ Comes files (Answer a) v = v ≡ Answers a
 Comes files (Refuse r) v = v ≡ Refuses r
 Comes files (Fail fs) v = v ≡ Faults fs
 Comes files (Read d name most next) v = IfHeld (v ≡ Missing d) (λ bytes. Comes files (next (take most bytes)) v) (files name)
-Comes files (Judge text next) v = (decided : Result Expr Refusal) × Decides text decided × Comes files (next decided) v
+Comes files (Judge j text next) v = (decided : Result (Matter j) Refusal) × Decides j text decided × Comes files (next decided) v
 
 -- memory ran out, and the shelf has told nothing more
 abbrev pub Stops : {A : Type 0} → ShelfView → Result A Outcome → ShelfView → Type 0
@@ -70,8 +69,8 @@ Goes (Fail fs) old result new =
 Goes (Read d name most next) old result new =
     Stops old result new ⊎ (Fails d name old result new
     ⊎ ((bytes : List ℕ) × (mid : ShelfView) × ReadGives old name most bytes mid × Goes (next bytes) mid result new))
-Goes (Judge text next) old result new =
-    Stops old result new ⊎ ((decided : Result Expr Refusal) × Decides text decided × Goes (next decided) old result new)
+Goes (Judge j text next) old result new =
+    Stops old result new ⊎ ((decided : Result (Matter j) Refusal) × Decides j text decided × Goes (next decided) old result new)
 
 -- The calls that a run of a plan makes: in its order, each under its name. A failed call is the last one, and its document's
 -- fault is the answer; a later one comes only after the earlier were read and accepted.
@@ -83,8 +82,8 @@ Along (Read d name most next) result made =
     ((made ≡ []) × (result ≡ Err outcome.Memory))
     ⊎ (((made ≡ call_of name true ∷ []) × (result ≡ Err (outcome.ReadFault d)))
     ⊎ ((bytes : List ℕ) × (later : List Call) × (made ≡ call_of name false ∷ later) × Along (next bytes) result later))
-Along (Judge text next) result made =
-    ((made ≡ []) × (result ≡ Err outcome.Memory)) ⊎ ((decided : Result Expr Refusal) × Decides text decided × Along (next decided) result made)
+Along (Judge j text next) result made =
+    ((made ≡ []) × (result ≡ Err outcome.Memory)) ⊎ ((decided : Result (Matter j) Refusal) × Decides j text decided × Along (next decided) result made)
 
 -- whether some documents lead the plan to this refusal
 unfoldable pub MayRefuse : {A : Type 0} → Plan A → Refusal → Type 0
@@ -92,4 +91,12 @@ MayRefuse (Answer a) x = ⊥
 MayRefuse (Refuse y) x = x ≡ y
 MayRefuse (Fail fs) x = ⊥
 MayRefuse (Read d name most next) x = (bytes : List ℕ) × MayRefuse (next bytes) x
-MayRefuse (Judge text next) x = (decided : Result Expr Refusal) × Decides text decided × MayRefuse (next decided) x
+MayRefuse (Judge j text next) x = (decided : Result (Matter j) Refusal) × Decides j text decided × MayRefuse (next decided) x
+
+-- whether some documents lead the plan to a read of this document
+unfoldable pub MayRead : {A : Type 0} → Plan A → Doc → Type 0
+MayRead (Answer a) x = ⊥
+MayRead (Refuse y) x = ⊥
+MayRead (Fail fs) x = ⊥
+MayRead (Read d name most next) x = (x ≡ d) ⊎ ((bytes : List ℕ) × MayRead (next bytes) x)
+MayRead (Judge j text next) x = (decided : Result (Matter j) Refusal) × Decides j text decided × MayRead (next decided) x

@@ -1,5 +1,5 @@
--- Which texts are queries, which of them are built, and why the others are refused.
-use Rattle.std.specs.Prelude.{◌≡◌, ℕ, ◌≤◌, ◌<◌, List, length, Result, Ok, Err, Option, Some, None, ◌⊎◌}
+-- Which texts are queries, which of them are built over no schema, and why the others are refused.
+use Rattle.std.specs.Prelude.{◌≡◌, ℕ, List, Result, Ok, Err, Option, Some, None, ◌⊎◌}
 use Rattle.ast.specs.declared.statement.Query.{Query}
 use Rattle.const_build.specs.Built.{built_query}
 use Rattle.const_ir.specs.declared.expr.Expr.{Expr}
@@ -10,7 +10,8 @@ use Rattle.ev_lex.specs.Reading as lexical
 use Rattle.ev_lex.specs.declared.token.Token.{Token}
 use Rattle.exact.specs.Promise as exact
 use Rattle.exact.specs.declared.rule.Rule.{Rule}
-use Rattle.edge_run.specs.Refusal.{Refusal, told}
+use Rattle.edge_run.specs.Limits.{IsShort, IsLong}
+use Rattle.edge_run.specs.Refusal.{Refusal}
 use Rattle.edge_run.specs.Refusal as refused
 use Rattle.edge_run.specs.declared.outcome.Doc.TheVariants as doc
 use Rattle.edge_run.specs.declared.outcome.Outcome.{Outcome}
@@ -18,21 +19,13 @@ use Rattle.edge_run.specs.declared.outcome.Outcome.TheVariants as outcome
 use Rattle.edge_run.specs.declared.outcome.QueryRefusal.{QueryRefusal}
 use Rattle.edge_run.specs.declared.outcome.QueryRefusal.TheVariants as refusal
 
--- how many bytes a query may have
-abbrev pub query_limit : ℕ
-query_limit = 1048576
-
--- the text has more bytes than a query may have
-abbrev pub IsLong : List ℕ → Type 0
-IsLong text = query_limit < length text
-
 -- the text is cut into tokens that spell the surface tree within the limits of the grammar
 abbrev pub IsQuery : List ℕ → Query → Type 0
 IsQuery text query = (tokens : List Token) × IsCut text tokens × grammar.IsQuery tokens query
 
 -- the text is not too long and spells a surface tree, which is built as this tree
 pub record IsBuilt (text : List ℕ) (tree : Expr) : Type 0 where
-  pub short : length text ≤ query_limit
+  pub short : IsShort doc.Query text
   pub surface : Query
   pub spelled : IsQuery text surface
   pub built : built_query surface ≡ Some tree
@@ -46,15 +39,17 @@ IsReason text refusal.Unbuilt = (surface : Query) × IsQuery text surface × (bu
 
 -- the text is not too long, and is refused for this reason
 pub record IsRefused (text : List ℕ) (r : QueryRefusal) : Type 0 where
-  pub short : length text ≤ query_limit
+  pub short : IsShort doc.Query text
   pub reason : IsReason text r
 
 -- what the rules of query texts decide: the tree, or a refusal
 abbrev pub Decides : List ℕ → Result Expr Refusal → Type 0
 Decides text (Ok tree) = IsBuilt text tree
 Decides text (Err (refused.Usage u)) = ⊥
+Decides text (Err (refused.TooLong d)) = (d ≡ doc.Query) × IsLong doc.Query text
+Decides text (Err (refused.Schema r)) = ⊥
+Decides text (Err (refused.Data b)) = ⊥
 Decides text (Err (refused.Query r)) = IsRefused text r
-Decides text (Err (refused.TooLong d)) = (d ≡ doc.Query) × IsLong text
 
 -- ---- what the code answers
 
@@ -82,12 +77,3 @@ IsSurface text (Err o) = IsTold text o
 abbrev pub IsTree : Option Expr → Result Expr Outcome → Type 0
 IsTree due (Ok tree) = due ≡ Some tree
 IsTree due (Err o) = (o ≡ outcome.Memory) ⊎ ((due ≡ None) × (o ≡ outcome.QueryRefused refusal.Unbuilt))
-
--- what was decided, as the code tells it
-abbrev pub as_told : {A : Type 0} → Result A Refusal → Result A Outcome
-as_told (Ok a) = Ok a
-as_told (Err r) = Err (told r)
-
--- what the rules of query texts decide, or that memory ran out
-abbrev pub IsDecided : List ℕ → Result Expr Outcome → Type 0
-IsDecided text result = (result ≡ Err outcome.Memory) ⊎ ((decided : Result Expr Refusal) × Decides text decided × (result ≡ as_told decided))

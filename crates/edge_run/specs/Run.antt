@@ -5,10 +5,12 @@ use Rattle.ev_io.specs.Shelf.{Call, ShelfView}
 use Rattle.ev_io.specs.Sink.{SinkView, PutTakes, PutFails}
 use Rattle.ev_value.specs.declared.item.Fault.{Fault}
 use Rattle.edge_run.specs.Deliver.{Delivers}
+use Rattle.edge_run.specs.Ends.{ComesTo, Serves}
 use Rattle.edge_run.specs.Outcome.{line_of}
-use Rattle.edge_run.specs.Plan.{Plan, Goes, Along, MayRefuse, Comes, Verdict, Answers, Refuses, Faults, Missing}
-use Rattle.edge_run.specs.Refusal.{Refusal, Usage, Query, TooLong, told}
+use Rattle.edge_run.specs.Plan.{Plan, Goes, Along, MayRefuse, MayRead, Comes, Verdict, Answers, Refuses, Faults}
+use Rattle.edge_run.specs.Refusal.{Refusal, Usage, TooLong, Schema, Data, Query, told}
 use Rattle.edge_run.specs.declared.outcome.Chan.TheVariants as chan
+use Rattle.edge_run.specs.declared.outcome.Doc.{Doc}
 use Rattle.edge_run.specs.declared.outcome.Outcome.{Outcome}
 use Rattle.edge_run.specs.declared.outcome.Outcome.TheVariants as outcome
 
@@ -27,13 +29,15 @@ module _ (plan : Plan (List ℕ)) (shelf shelf' : ShelfView) (out out' err err' 
   abbrev pub IsRefusalDue : Refusal → Type 0
   IsRefusalDue x = MayRefuse plan x × Over shelf (λ files. Comes files plan (Refuses x))
 
-  -- an end that a line tells is due: by the rule that fails, by a fault among the items, or by the shelf's fault
+  -- an end that a line tells is due: by the rule that fails, by a fault among the items, or by the shelf's fault at a document that is read
   abbrev pub IsDue : Outcome → Type 0
   IsDue outcome.Done = ⊥
   IsDue (outcome.Usage u) = IsRefusalDue (Usage u)
-  IsDue (outcome.ReadFault d) = Rose shelf.faults shelf'.faults
+  IsDue (outcome.ReadFault d) = MayRead plan d × Rose shelf.faults shelf'.faults
   IsDue (outcome.TooLong d) = IsRefusalDue (TooLong d)
   IsDue (outcome.WriteFault c) = ⊥
+  IsDue (outcome.SchemaRefused r) = IsRefusalDue (Schema r)
+  IsDue (outcome.DataRefused b) = IsRefusalDue (Data b)
   IsDue (outcome.QueryRefused r) = IsRefusalDue (Query r)
   IsDue (outcome.RunFault f) = Over shelf (λ files. (fs : List Fault) × Comes files plan (Faults fs) × Contains fs f)
   IsDue outcome.Memory = ⊥
@@ -57,24 +61,15 @@ module _ (plan : Plan (List ℕ)) (shelf shelf' : ShelfView) (out out' err err' 
   IsCaused (outcome.Usage u) = IsDue (outcome.Usage u) × IsTold (outcome.Usage u)
   IsCaused (outcome.ReadFault d) = IsDue (outcome.ReadFault d) × IsTold (outcome.ReadFault d)
   IsCaused (outcome.TooLong d) = IsDue (outcome.TooLong d) × IsTold (outcome.TooLong d)
+  IsCaused (outcome.SchemaRefused r) = IsDue (outcome.SchemaRefused r) × IsTold (outcome.SchemaRefused r)
+  IsCaused (outcome.DataRefused b) = IsDue (outcome.DataRefused b) × IsTold (outcome.DataRefused b)
   IsCaused (outcome.QueryRefused r) = IsDue (outcome.QueryRefused r) × IsTold (outcome.QueryRefused r)
   IsCaused (outcome.RunFault f) = IsDue (outcome.RunFault f) × IsTold (outcome.RunFault f)
-
-  -- the end is this one, or the put of its line failed
-  abbrev pub Ends : Outcome → Outcome → Type 0
-  Ends result o = ((result ≡ o) × IsTold o) ⊎ ((result ≡ outcome.WriteFault chan.Err) × PutFails err (line_of o) err')
-
-  -- what answers a verdict, where memory was found and no read failed
-  abbrev pub Meets : Outcome → Verdict (List ℕ) → Type 0
-  Meets result (Answers text) = ((result ≡ outcome.Done) × PutTakes out text out') ⊎ ((result ≡ outcome.WriteFault chan.Out) × PutFails out text out')
-  Meets result (Refuses x) = Ends result (told x)
-  Meets result (Faults fs) = (f : Fault) × Contains fs f × Ends result (outcome.RunFault f)
-  Meets result (Missing d) = ⊥
 
   -- What is due is answered, unless memory ran out, or a read failed and this is told.
   abbrev pub IsComplete : Outcome → Type 0
   IsComplete result = Over shelf (λ files. (result ≡ outcome.Memory)
-      ⊎ ((Rose shelf.faults shelf'.faults × (d : _) × Ends result (outcome.ReadFault d)) ⊎ ((v : Verdict (List ℕ)) × Comes files plan v × Meets result v)))
+      ⊎ ((Rose shelf.faults shelf'.faults × (d : Doc) × MayRead plan d × ComesTo out out' err err' result (outcome.ReadFault d)) ⊎ ((v : Verdict (List ℕ)) × Comes files plan v × Serves out out' err err' result v)))
 
   -- The calls of the shelf are those of the plan.
   pub record IsAlong (result : Outcome) : Type 0 where

@@ -1,9 +1,9 @@
-//! Laws of query texts and of what runs come to.
+//! Laws of texts and of what runs come to.
 ghost use Rattle.std.specs.Prelude.{◌≡◌, ℕ, List, Option, Result};
 ghost use Rattle.ast.specs.declared.statement.Query.{Query};
-ghost use Rattle.const_ir.specs.declared.expr.Expr.{Expr};
+ghost use Rattle.edge_run.specs.Judgement.{Judgement, Matter, Decides};
 ghost use Rattle.edge_run.specs.Plan.{Plan, Verdict, Comes};
-ghost use Rattle.edge_run.specs.Query.{IsQuery, Decides};
+ghost use Rattle.edge_run.specs.Query.{IsQuery};
 ghost use Rattle.edge_run.specs.Refusal.{Refusal};
 
 /// Each text spells at most one query.
@@ -11,9 +11,9 @@ pub fn one_query()
     ensures { (text : List ℕ) (a : Query) (b : Query) → IsQuery text a → IsQuery text b → a ≡ b }
 {}
 
-/// Of each text at most one thing is decided: its tree, or the one refusal with its one byte or token.
+/// Of each text at most one thing is decided, whatever it is judged as: what it stands for, or the one refusal with its one place.
 pub fn one_decision()
-    ensures { (text : List ℕ) (a : Result Expr Refusal) (b : Result Expr Refusal) → Decides text a → Decides text b → a ≡ b }
+    ensures { (j : Judgement) (text : List ℕ) (a : Result (Matter j) Refusal) (b : Result (Matter j) Refusal) → Decides j text a → Decides j text b → a ≡ b }
 {}
 
 /// Over what the names hold, a run comes to at most one verdict.

@@ -4,36 +4,55 @@ ghost use Rattle.ev_io.specs.Shelf.{ShelfView};
 ghost use Rattle.ev_value.specs.Item.{faults, values};
 ghost use Rattle.ev_value.specs.Nested.{answer_form as answer_form_of};
 ghost use Rattle.const_ir.specs.Meaning.{items};
+ghost use Rattle.edge_run.specs.Judgement.{AsSchema, AsData, AsConst};
 ghost use Rattle.edge_run.specs.Plan.{Goes};
-ghost use Rattle.edge_run.specs.Modes.{query_document, query_plan, answered, answer_text as answer_text_of, IsFirst, const_plan, mode_plan, plan_of};
+ghost use Rattle.edge_run.specs.Modes.{judged_document, answered, answer_text as answer_text_of, census as census_of, IsFirst, const_plan, check_plan, counted_plan, mode_plan, plan_of};
 
+use crate::data::decide_data;
+use crate::document::read;
 use crate::evaluate::evaluate;
 use crate::outcome::{Doc, Outcome, UsageRule};
-use crate::query::{QUERY_LIMIT, decide};
+use crate::query::decide_query;
+use crate::schema::decide_schema;
 use const_ir::Expr;
-use ev_io::{Shelf, ShelfError};
+use ev_io::Shelf;
+use ev_schema::Schema;
 use ev_value::{Bytes, Fault, Item, List, Nested, Text, Val};
 use shape_decode::text;
 use std::alloc::{AllocError, Global};
+use store_check::Store;
 
-// A document's first bytes, up to one more than its limit.
-#[tactic(auto, unfolding(crate::specs::Plan::Goes))]
-fn query_document<H: Shelf>(shelf: &mut H, name: &Text) -> Result<Bytes, Outcome>
-    ensures { Goes (query_document name.now) (H.seen shelf.old) result (H.seen shelf.new) }
+#[tactic(auto, unfolding(crate::specs::Modes::judged_document), using(crate::proofs::PlanLaws::then_ok, crate::proofs::PlanLaws::then_err, crate::proofs::PlanLaws::judged_goes))]
+fn read_query<H: Shelf>(alloc: Global, shelf: &mut H, name: &Text) -> Result<Expr, Outcome>
+    ensures { Goes (judged_document AsConst name.now) (H.seen shelf.old) result (H.seen shelf.new) }
 {
-    match shelf.read(name.as_str(), QUERY_LIMIT + 1) {
-        Ok(bytes) => Ok(bytes),
-        Err(ShelfError::Failed) => Err(Outcome::ReadFault(Doc::Query)),
-        Err(ShelfError::Memory) => Err(Outcome::Memory),
+    match read(shelf, Doc::Query, name) {
+        Ok(text) => decide_query(alloc, &text),
+        Err(outcome) => Err(outcome),
     }
 }
 
-#[tactic(auto, unfolding(crate::specs::Modes::query_plan), using(crate::proofs::PlanLaws::then_ok, crate::proofs::PlanLaws::then_err, crate::proofs::PlanLaws::judged_goes))]
-fn read_tree<H: Shelf>(alloc: Global, shelf: &mut H, name: &Text) -> Result<Expr, Outcome>
-    ensures { Goes (query_plan name.now) (H.seen shelf.old) result (H.seen shelf.new) }
+#[tactic(auto, unfolding(crate::specs::Modes::judged_document), using(crate::proofs::PlanLaws::then_ok, crate::proofs::PlanLaws::then_err, crate::proofs::PlanLaws::judged_goes))]
+fn read_schema<H: Shelf>(alloc: Global, shelf: &mut H, name: &Text) -> Result<Schema, Outcome>
+    ensures { Goes (judged_document AsSchema name.now) (H.seen shelf.old) result (H.seen shelf.new) }
 {
-    match query_document(shelf, name) {
-        Ok(text) => decide(alloc, &text),
+    match read(shelf, Doc::Schema, name) {
+        Ok(text) => decide_schema(alloc, &text),
+        Err(outcome) => Err(outcome),
+    }
+}
+
+#[tactic(auto, unfolding(crate::specs::Modes::judged_document), using(crate::proofs::PlanLaws::then_ok, crate::proofs::PlanLaws::then_err, crate::proofs::PlanLaws::judged_goes))]
+fn read_data<H: Shelf>(
+    alloc: Global,
+    shelf: &mut H,
+    schema: &Schema,
+    name: &Text,
+) -> Result<Store, Outcome>
+    ensures { Goes (judged_document (AsData schema.now) name.now) (H.seen shelf.old) result (H.seen shelf.new) }
+{
+    match read(shelf, Doc::Data, name) {
+        Ok(text) => decide_data(alloc, schema, &text),
         Err(outcome) => Err(outcome),
     }
 }
@@ -104,12 +123,55 @@ fn run_query(alloc: Global, query: &Expr) -> Result<Bytes, Outcome>
     }
 }
 
+// Mode `const`: the query alone.
 #[tactic(auto, unfolding(crate::specs::Modes::const_plan), using(crate::proofs::PlanLaws::then_ok, crate::proofs::PlanLaws::then_err))]
 fn const_answer<H: Shelf>(alloc: Global, shelf: &mut H, query: &Text) -> Result<Bytes, Outcome>
     ensures { Goes (const_plan query.now) (H.seen shelf.old) result (H.seen shelf.new) }
 {
-    match read_tree(alloc, shelf, query) {
+    match read_query(alloc, shelf, query) {
         Ok(tree) => run_query(alloc, &tree),
+        Err(outcome) => Err(outcome),
+    }
+}
+
+// The line that tells how many types and objects there are.
+fn census(alloc: Global, schema: &Schema, store: &Store) -> Result<Bytes, AllocError>
+    ensures { IfOk result (λ line. line ≡ census_of schema.now store.now) }
+{
+    let types = schema.types.len();
+    let objects = store.objects.len();
+    let line = format!(in alloc; "types {types} objects {objects}\n")?;
+    Ok(Bytes::from_vec(line.into_bytes()))
+}
+
+// The data of a schema, counted.
+#[tactic(auto, unfolding(crate::specs::Modes::counted_plan), using(crate::proofs::PlanLaws::then_ok, crate::proofs::PlanLaws::then_err, crate::proofs::PlanLaws::made_goes))]
+fn counted<H: Shelf>(
+    alloc: Global,
+    shelf: &mut H,
+    schema: &Schema,
+    name: &Text,
+) -> Result<Bytes, Outcome>
+    ensures { Goes (counted_plan schema.now name.now) (H.seen shelf.old) result (H.seen shelf.new) }
+{
+    match read_data(alloc, shelf, schema, name) {
+        Ok(store) => without_memory(census(alloc, schema, &store)),
+        Err(outcome) => Err(outcome),
+    }
+}
+
+// Mode `check`: the schema and the data.
+#[tactic(auto, unfolding(crate::specs::Modes::check_plan), using(crate::proofs::PlanLaws::then_ok, crate::proofs::PlanLaws::then_err))]
+fn check_answer<H: Shelf>(
+    alloc: Global,
+    shelf: &mut H,
+    schema: &Text,
+    data: &Text,
+) -> Result<Bytes, Outcome>
+    ensures { Goes (check_plan schema.now data.now) (H.seen shelf.old) result (H.seen shelf.new) }
+{
+    match read_schema(alloc, shelf, schema) {
+        Ok(schema) => counted(alloc, shelf, &schema, data),
         Err(outcome) => Err(outcome),
     }
 }
@@ -119,12 +181,16 @@ fn mode_answer<H: Shelf>(
     alloc: Global,
     shelf: &mut H,
     mode: &Text,
+    schema: &Text,
+    data: &Text,
     query: &Text,
 ) -> Result<Bytes, Outcome>
-    ensures { Goes (mode_plan mode.now query.now) (H.seen shelf.old) result (H.seen shelf.new) }
+    ensures { Goes (mode_plan mode.now schema.now data.now query.now) (H.seen shelf.old) result (H.seen shelf.new) }
 {
     if mode.as_str() == "const" {
         const_answer(alloc, shelf, query)
+    } else if mode.as_str() == "check" {
+        check_answer(alloc, shelf, schema, data)
     } else {
         Err(Outcome::Usage(UsageRule::U2))
     }
@@ -135,8 +201,11 @@ fn mode_answer<H: Shelf>(
 pub fn answer<H: Shelf>(alloc: Global, words: &[Text], shelf: &mut H) -> Result<Bytes, Outcome>
     ensures { Goes (plan_of words.now) (H.seen shelf.old) result (H.seen shelf.new) }
 {
-    let [mode, _schema, _data, query] = words else {
-        return Err(Outcome::Usage(UsageRule::U1));
-    };
-    mode_answer(alloc, shelf, mode, query)
+    match words {
+        [mode, schema, data, query] => mode_answer(alloc, shelf, mode, schema, data, query),
+        [mode, schema, data, query, option, _args] if option.as_str() == "--args" => {
+            mode_answer(alloc, shelf, mode, schema, data, query)
+        }
+        _ => Err(Outcome::Usage(UsageRule::U1)),
+    }
 }

@@ -1,9 +1,11 @@
 //! How a run ends.
 ghost use Rattle.std.specs.Prelude.{◌≡◌, IfOk};
-ghost use Rattle.edge_run.specs.Outcome.{status_of, line_of, usage_line_of, read_line_of, long_line_of, refusal_line_of, byte_line_of, syntax_line_of, fault_line_of};
+ghost use Rattle.edge_run.specs.Outcome.{status_of, line_of, usage_line_of, read_line_of, long_line_of, schema_line_of, schema_syntax_of, schema_rule_of, data_line_of, data_rule_of, earlier_of, objects_line_of, query_line_of, query_syntax_of, byte_line_of, token_line_of, fault_line_of};
 
 use ev_value::{Fault, Text};
 use exact::Rule;
+use obj_draft::{Broken as BrokenData, Rule as DataRule};
+use schema_build::{Broken as BrokenSchema, Rule as SchemaRule};
 use std::alloc::{AllocError, Global};
 
 /// A document that a mode reads.
@@ -25,10 +27,23 @@ pub enum Chan {
 /// A rule of the command line.
 #[derive(Clone, Copy)]
 pub enum UsageRule {
-    /// There are exactly four words: MODE, SCHEMA, DATA and QUERY.
+    /// The words are MODE, SCHEMA, DATA and QUERY, and `--args` and one more where there are arguments.
     U1,
     /// The first word is a mode.
     U2,
+}
+
+/// Why a schema is refused. Bytes and tokens are numbered from 0, and the end counts as a token.
+#[derive(Clone, Copy)]
+pub enum SchemaRefusal {
+    /// With this byte no token begins.
+    Lex { byte: u32 },
+    /// By this rule the grammar refuses this token.
+    Syntax { rule: Rule, token: u32 },
+    /// This rule of schemas fails, at this byte.
+    Build(BrokenSchema),
+    /// A computed pointer or a policy stands in the schema: neither is built yet.
+    Unbuilt,
 }
 
 /// Why a query is refused. Bytes and tokens are numbered from 0, and the end counts as a token.
@@ -54,6 +69,9 @@ pub enum Outcome {
     TooLong(Doc),
     /// The text that was due could not be written whole there.
     WriteFault(Chan),
+    SchemaRefused(SchemaRefusal),
+    /// This rule on data fails, at these objects.
+    DataRefused(BrokenData),
     QueryRefused(QueryRefusal),
     /// The answer's items hold this fault.
     RunFault(Fault),
@@ -71,6 +89,8 @@ impl Outcome {
             Outcome::Usage(_) => 2,
             Outcome::ReadFault(_) => 3,
             Outcome::WriteFault(_) => 4,
+            Outcome::SchemaRefused(_) => 5,
+            Outcome::DataRefused(_) => 6,
             Outcome::QueryRefused(_) => 8,
             Outcome::RunFault(_) => 9,
             Outcome::Memory => 10,
@@ -87,7 +107,9 @@ impl Outcome {
             Outcome::Usage(rule) => Text::from_str(alloc, usage_line(*rule)),
             Outcome::ReadFault(doc) => Text::from_str(alloc, read_line(*doc)),
             Outcome::TooLong(doc) => Text::from_str(alloc, long_line(*doc)),
-            Outcome::QueryRefused(refusal) => refusal_line(alloc, *refusal),
+            Outcome::SchemaRefused(refusal) => schema_line(alloc, *refusal),
+            Outcome::DataRefused(broken) => data_line(alloc, *broken),
+            Outcome::QueryRefused(refusal) => query_line(alloc, *refusal),
             Outcome::RunFault(fault) => Text::from_str(alloc, fault_line(*fault)),
             Outcome::Memory => Text::from_str(alloc, memory_line()),
         }
@@ -132,31 +154,130 @@ fn long_line(doc: Doc) -> &'static str
     }
 }
 
-fn refusal_line(alloc: Global, refusal: QueryRefusal) -> Result<Text, AllocError>
-    ensures { IfOk result (λ line. line ≡ refusal_line_of refusal) }
+/// The line of a rule that fails at a byte.
+fn byte_line(alloc: Global, rule: &str, byte: u32) -> Result<Text, AllocError>
+    ensures { IfOk result (λ line. line ≡ byte_line_of rule.now byte) }
+{
+    let line = format!(in alloc; "{rule} byte {byte}\n")?;
+    Ok(Text::new(line))
+}
+
+/// The line of a rule of the grammar that refuses a token.
+fn token_line(alloc: Global, rule: &str, token: u32) -> Result<Text, AllocError>
+    ensures { IfOk result (λ line. line ≡ token_line_of rule.now token) }
+{
+    let line = format!(in alloc; "{rule} token {token}\n")?;
+    Ok(Text::new(line))
+}
+
+fn schema_line(alloc: Global, refusal: SchemaRefusal) -> Result<Text, AllocError>
+    ensures { IfOk result (λ line. line ≡ schema_line_of refusal) }
 {
     match refusal {
-        QueryRefusal::Lex { byte } => byte_line(alloc, byte),
-        QueryRefusal::Syntax { rule, token } => syntax_line(alloc, rule, token),
+        SchemaRefusal::Lex { byte } => byte_line(alloc, "schema S1", byte),
+        SchemaRefusal::Syntax { rule, token } => token_line(alloc, schema_syntax(rule), token),
+        SchemaRefusal::Build(broken) => byte_line(alloc, schema_rule(broken.rule), broken.byte),
+        SchemaRefusal::Unbuilt => Text::from_str(alloc, "schema unbuilt\n"),
+    }
+}
+
+fn schema_syntax(rule: Rule) -> &'static str
+    ensures { result.now ≡ schema_syntax_of rule }
+{
+    match rule {
+        Rule::Unexpected => "schema S2",
+        Rule::TooDeep => "schema S3",
+    }
+}
+
+fn schema_rule(rule: SchemaRule) -> &'static str
+    ensures { result.now ≡ schema_rule_of rule }
+{
+    match rule {
+        SchemaRule::M1 => "schema M1",
+        SchemaRule::M2 => "schema M2",
+        SchemaRule::M3 => "schema M3",
+        SchemaRule::M4 => "schema M4",
+        SchemaRule::M5 => "schema M5",
+        SchemaRule::M6 => "schema M6",
+        SchemaRule::M10 => "schema M10",
+        SchemaRule::M11 => "schema M11",
+    }
+}
+
+fn data_line(alloc: Global, broken: BrokenData) -> Result<Text, AllocError>
+    ensures { IfOk result (λ line. line ≡ data_line_of broken) }
+{
+    let earlier = earlier(broken.rule, broken.other);
+    objects_line(alloc, data_rule(broken.rule), broken.object, earlier)
+}
+
+/// The line of a rule on data that fails, with the object, and with the earlier one that it tells.
+fn objects_line(
+    alloc: Global,
+    rule: &str,
+    object: Option<u32>,
+    earlier: Option<u32>,
+) -> Result<Text, AllocError>
+    ensures { IfOk result (λ line. line ≡ objects_line_of rule.now object earlier) }
+{
+    let line = match (object, earlier) {
+        (None, _) => format!(in alloc; "{rule}\n")?,
+        (Some(object), None) => format!(in alloc; "{rule} object {object}\n")?,
+        (Some(object), Some(earlier)) => {
+            format!(in alloc; "{rule} object {object} object {earlier}\n")?
+        }
+    };
+    Ok(Text::new(line))
+}
+
+/// The earlier object, where the rule is one on two objects.
+fn earlier(rule: DataRule, other: Option<u32>) -> Option<u32>
+    ensures { result ≡ earlier_of rule other }
+{
+    match rule {
+        DataRule::X4 | DataRule::X13 => other,
+        _ => None,
+    }
+}
+
+fn data_rule(rule: DataRule) -> &'static str
+    ensures { result.now ≡ data_rule_of rule }
+{
+    match rule {
+        DataRule::X1 => "data X1",
+        DataRule::X2 => "data X2",
+        DataRule::X3 => "data X3",
+        DataRule::X4 => "data X4",
+        DataRule::X5 => "data X5",
+        DataRule::X6 => "data X6",
+        DataRule::X7 => "data X7",
+        DataRule::X8 => "data X8",
+        DataRule::X9 => "data X9",
+        DataRule::X10 => "data X10",
+        DataRule::X11 => "data X11",
+        DataRule::X12 => "data X12",
+        DataRule::X13 => "data X13",
+    }
+}
+
+fn query_line(alloc: Global, refusal: QueryRefusal) -> Result<Text, AllocError>
+    ensures { IfOk result (λ line. line ≡ query_line_of refusal) }
+{
+    match refusal {
+        QueryRefusal::Lex { byte } => byte_line(alloc, "query S1", byte),
+        QueryRefusal::Syntax { rule, token } => token_line(alloc, query_syntax(rule), token),
         QueryRefusal::Unbuilt => Text::from_str(alloc, "query unbuilt\n"),
     }
 }
 
-fn byte_line(alloc: Global, byte: u32) -> Result<Text, AllocError>
-    ensures { IfOk result (λ line. line ≡ byte_line_of byte) }
+fn query_syntax(rule: Rule) -> &'static str
+    ensures { result.now ≡ query_syntax_of rule }
 {
-    let line = format!(in alloc; "query S1 byte {byte}\n")?;
-    Ok(Text::new(line))
-}
-
-fn syntax_line(alloc: Global, rule: Rule, token: u32) -> Result<Text, AllocError>
-    ensures { IfOk result (λ line. line ≡ syntax_line_of rule token) }
-{
-    let line = match rule {
-        Rule::Unexpected => format!(in alloc; "query S2 token {token}\n")?,
-        Rule::TooDeep => format!(in alloc; "query S3 token {token}\n")?,
-    };
-    Ok(Text::new(line))
+    match rule {
+        Rule::Unexpected => "query S2",
+        Rule::TooDeep => "query S3",
+    }
 }
 
 #[tactic(auto, using(std::proofs::lemmas::Fmt::decimal_digit))]

@@ -1,8 +1,11 @@
 //! The text of a query, decided: its tree, or why it is refused.
-ghost use Rattle.std.specs.Prelude.{◌≡◌, ◌≤◌, ◌<◌, ◌^◌, length};
+ghost use Rattle.std.specs.Prelude.{◌≡◌, ◌<◌, ◌^◌, length};
 ghost use Rattle.const_build.specs.Built.{built_query};
-ghost use Rattle.edge_run.specs.Query.{query_limit, IsTokens, IsParsed, IsSurface, IsTree, IsDecided};
+ghost use Rattle.edge_run.specs.Judgement.{AsConst, IsDecided};
+ghost use Rattle.edge_run.specs.Limits.{IsShort};
+ghost use Rattle.edge_run.specs.Query.{IsTokens, IsParsed, IsSurface, IsTree};
 
+use crate::document::limit;
 use crate::outcome::{Doc, Outcome, QueryRefusal};
 use ast::Query;
 use const_build::{BuildError, build_query};
@@ -13,12 +16,9 @@ use ev_value::Bytes;
 use exact::Rule;
 use std::alloc::Global;
 
-/// How many bytes a query may have.
-pub const QUERY_LIMIT: u64 = 1_048_576;
-
 // The tokens of a text.
 fn tokens(alloc: Global, text: &[u8]) -> Result<Tokens, Outcome>
-    requires { length text.now ≤ query_limit }
+    requires { IsShort Doc.Query text.now }
     ensures { IsTokens text.now result }
 {
     match lex(alloc, text) {
@@ -49,9 +49,9 @@ fn parsed(alloc: Global, tokens: &Tokens) -> Result<Query, Outcome>
 }
 
 // The surface tree that the text spells.
-#[tactic(auto, using(crate::proofs::Decisions::few, crate::proofs::Decisions::surface))]
+#[tactic(auto, using(crate::proofs::QueryLaws::few, crate::proofs::QueryLaws::surface))]
 fn surface(alloc: Global, text: &[u8]) -> Result<Query, Outcome>
-    requires { length text.now ≤ query_limit }
+    requires { IsShort Doc.Query text.now }
     ensures { IsSurface text.now result }
 {
     match tokens(alloc, text) {
@@ -71,12 +71,12 @@ fn tree(alloc: Global, query: &Query) -> Result<Expr, Outcome>
     }
 }
 
-/// The tree of a query text, unless it is too long, spells no query, or one that is not built.
-#[tactic(auto, using(crate::proofs::Decisions::long, crate::proofs::Decisions::told_is_decided, crate::proofs::Decisions::tree_is_decided))]
-pub fn decide(alloc: Global, text: &Bytes) -> Result<Expr, Outcome>
-    ensures { IsDecided text.now result }
+/// The tree of a query text over no schema, unless it is too long, spells no query, or one that is not built.
+#[tactic(auto, using(crate::proofs::QueryLaws::long, crate::proofs::QueryLaws::told_is_decided, crate::proofs::QueryLaws::tree_is_decided))]
+pub fn decide_query(alloc: Global, text: &Bytes) -> Result<Expr, Outcome>
+    ensures { IsDecided AsConst text.now result }
 {
-    if text.len() as u64 > QUERY_LIMIT {
+    if text.len() as u64 > limit(Doc::Query) {
         return Err(Outcome::TooLong(Doc::Query));
     }
     match surface(alloc, text.as_slice()) {

@@ -13,7 +13,8 @@ use std::alloc::Global;
 /// Runs the program on its words, without its own name: reads what the words name from the shelf, and puts the answer to
 /// `out` or one line of another end to `err`.
 ///
-/// The words are MODE, SCHEMA, DATA and QUERY. The one mode is `const`: the query alone, over no schema and no objects.
+/// The words are MODE, SCHEMA, DATA and QUERY, and behind them `--args` and a name where there are arguments. The modes are
+/// `const`, the query alone, over no schema and no objects; and `check`, the schema and the data, and how many types and objects there are.
 pub fn run_words<H: Shelf, K: Sink, L: Sink, G: Gate>(
     alloc: Global,
     words: &[Text],

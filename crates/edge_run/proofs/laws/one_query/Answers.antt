@@ -1,4 +1,4 @@
-use Rattle.edge_run.proofs.Decisions.{one_query}
+use Rattle.edge_run.proofs.QueryLaws.{one_query}
 use Rattle.edge_run.proofs.laws.one_query.Goals as goal
 
 pub returns : goal.returns

@@ -1,0 +1,221 @@
+-- What the plan of a task comes to, against what is due for the task.
+use Rattle.std.proofs.Common.{◌≡◌, ◌≢◌, ℕ, ◌+◌, List, [], ◌∷◌, take, Option, Some, None, Result, Ok, Err, ◌⊎◌, inl, inr, refl, sym, ap, ◌∙◌, subst, rules}
+use Rattle.const_ir.specs.Meaning.{items}
+use Rattle.ev_value.specs.Item.{faults, values}
+use Rattle.ev_value.specs.declared.item.Fault.{Fault}
+use Rattle.ev_value.specs.declared.item.Item.{Item}
+use Rattle.ev_value.specs.declared.value.Val.{Val}
+use Rattle.edge_run.specs.Due.{Due, OfDocument, OfText, OfDecision, OfItems}
+use Rattle.edge_run.specs.Judgement.{Judgement, AsSchema, AsData, AsConst, Matter, Decides, doc_of}
+use Rattle.edge_run.specs.Limits.{limit_of}
+use Rattle.edge_run.specs.Modes.{answered, answer_text, census, judged_document, const_plan, counted_plan, check_plan}
+use Rattle.edge_run.specs.Plan.{Plan, Answer, Fail, Refuse, Read, Judge, ◌>>=◌, ruled, Verdict, Answers, Refuses, Faults, Missing, Comes, IfHeld, MayRefuse, MayRead}
+use Rattle.edge_run.specs.Refusal.{Refusal, Usage, TooLong, Schema, Data, Query}
+use Rattle.edge_run.specs.Task.{Task, Const, Check, Reads, Tells}
+use Rattle.edge_run.specs.declared.outcome.Doc.{Doc}
+use Rattle.edge_run.specs.declared.outcome.Doc.TheVariants as doc
+use Rattle.edge_run.proofs.Answered.{faultless, faulty}
+use Rattle.edge_run.proofs.Decisions.{front_decides}
+
+-- the plan of a task
+abbrev pub plan_for : Task → Plan (List ℕ)
+plan_for (Const query) = const_plan query
+plan_for (Check schema_name data_name) = check_plan schema_name data_name
+
+-- ---- what is due of an answer's items
+
+fault_first : (fs : List Fault) → (fs ≡ []) ⊎ ((f : Fault) × (more : List Fault) × (fs ≡ f ∷ more))
+fault_first [] = inl refl
+fault_first (f ∷ more) = inr (f, more, refl)
+
+answered_clean : (xs : List (Item Val)) → faults xs ≡ [] → answered xs ≡ Answer (answer_text (values xs))
+unfolding answered
+answered_clean xs e = rw (faultless xs e) refl
+
+answered_faulty : (xs : List (Item Val)) (f : Fault) (more : List Fault) → faults xs ≡ f ∷ more → answered xs ≡ Fail (faults xs)
+unfolding answered
+answered_faulty xs f more e = rw (faulty xs f more e) refl
+
+comes_answer : (files : List ℕ → Option (List ℕ)) (p : Plan (List ℕ)) (text : List ℕ) (v : Verdict (List ℕ)) → p ≡ Answer text → Comes files p v → v ≡ Answers text
+unfolding Comes
+comes_answer files p text v e c = subst (λ q. Comes files q v) e c
+
+comes_faults : (files : List ℕ → Option (List ℕ)) (p : Plan (List ℕ)) (fs : List Fault) (v : Verdict (List ℕ)) → p ≡ Fail fs → Comes files p v → v ≡ Faults fs
+unfolding Comes
+comes_faults files p fs v e c = subst (λ q. Comes files q v) e c
+
+cons_not_nil : (f : Fault) (more : List Fault) → f ∷ more ≡ [] → ⊥
+cons_not_nil f more e = search rules
+
+items_due : (files : List ℕ → Option (List ℕ)) (xs : List (Item Val)) (v : Verdict (List ℕ)) → Comes files (answered xs) v → OfItems xs v
+items_due files xs v c = by (fault_first (faults xs))
+  where
+    by : (faults xs ≡ []) ⊎ ((f : Fault) × (more : List Fault) × (faults xs ≡ f ∷ more)) → OfItems xs v
+    by (inl clean) = subst (OfItems xs) (sym (comes_answer files (answered xs) (answer_text (values xs)) v (answered_clean xs clean) c)) (clean, refl)
+    by (inr (f, more, e)) =
+        subst (OfItems xs) (sym (comes_faults files (answered xs) (faults xs) v (answered_faulty xs f more e) c)) (refl, λ none. cons_not_nil f more (sym e ∙ none))
+
+-- ---- what is due of a document
+
+ruled_due : {A : Type 0} (files : List ℕ → Option (List ℕ)) (decided : Result A Refusal) (f : A → Plan (List ℕ)) (next : A → Verdict (List ℕ) → Type 0) (v : Verdict (List ℕ))
+    → ((a : A) → Comes files (f a) v → next a v) → Comes files (ruled decided >>= f) v → OfDecision decided next v
+unfolding Comes ruled ◌>>=◌
+ruled_due files (Ok a) f next v then c = then a c
+ruled_due files (Err r) f next v then c = c
+
+found_due : (j : Judgement) (files : List ℕ → Option (List ℕ)) (f : Matter j → Plan (List ℕ)) (next : Matter j → Verdict (List ℕ) → Type 0) (v : Verdict (List ℕ))
+    → ((a : Matter j) → Comes files (f a) v → next a v) → (held : Option (List ℕ))
+    → IfHeld (v ≡ Missing (doc_of j))
+    (λ text. (decided : Result (Matter j) Refusal) × Decides j (take (limit_of (doc_of j) + 1) text) decided × Comes files (ruled decided >>= f) v) held
+    → OfDocument j held next v
+found_due j files f next v then None c = c
+found_due j files f next v then (Some text) (decided, is, c) = (decided, front_decides j text decided is, ruled_due files decided f next v then c)
+
+-- What is due of a document, where what is due over what it stands for is known.
+document_due : (j : Judgement) (files : List ℕ → Option (List ℕ)) (name : List ℕ) (f : Matter j → Plan (List ℕ)) (next : Matter j → Verdict (List ℕ) → Type 0)
+    (v : Verdict (List ℕ)) → ((a : Matter j) → Comes files (f a) v → next a v) → Comes files (judged_document j name >>= f) v → OfDocument j (files name) next v
+unfolding Comes judged_document ◌>>=◌
+document_due j files name f next v then c = found_due j files f next v then (files name) c
+
+counted_due : (files : List ℕ → Option (List ℕ)) (schema : _) (name : List ℕ) (v : Verdict (List ℕ)) → Comes files (counted_plan schema name) v
+    → OfDocument (AsData schema) (files name) (λ store w. w ≡ Answers (census schema store)) v
+unfolding counted_plan Comes
+counted_due files schema name v c =
+    document_due (AsData schema) files name (λ store. Answer (census schema store)) (λ store w. w ≡ Answers (census schema store)) v (λ store is. is) c
+
+-- What the plan of a task comes to is due.
+pub comes_due : (t : Task) (files : List ℕ → Option (List ℕ)) (v : Verdict (List ℕ)) → Comes files (plan_for t) v → Due t files v
+unfolding const_plan check_plan
+comes_due (Const query) files v c =
+    document_due AsConst files query (λ tree. answered (items tree)) (λ tree. OfItems (items tree)) v (λ tree. items_due files (items tree) v) c
+comes_due (Check schema_name data_name) files v c =
+    document_due AsSchema files schema_name (λ schema. counted_plan schema data_name)
+    (λ schema. OfDocument (AsData schema) (files data_name) (λ store w. w ≡ Answers (census schema store))) v
+    (λ schema. counted_due files schema data_name v) c
+
+-- ---- which rules may refuse a task, and which documents it reads
+
+-- the rules on a document of this kind
+abbrev TellsOf : Judgement → Refusal → Type 0
+TellsOf j (Usage u) = ⊥
+TellsOf j (TooLong d) = d ≡ doc_of j
+TellsOf j (Schema r) = doc.Schema ≡ doc_of j
+TellsOf j (Data b) = doc.Data ≡ doc_of j
+TellsOf j (Query r) = doc.Query ≡ doc_of j
+
+decided_tells : (j : Judgement) (text : List ℕ) (x : Refusal) → Decides j text (Err x) → TellsOf j x
+decided_tells AsSchema text (Usage u) is = is
+decided_tells AsSchema text (TooLong d) is = is.0
+decided_tells AsSchema text (Schema r) is = refl
+decided_tells AsSchema text (Data b) is = absurd is
+decided_tells AsSchema text (Query r) is = absurd is
+decided_tells (AsData s) text (Usage u) is = is
+decided_tells (AsData s) text (TooLong d) is = is.0
+decided_tells (AsData s) text (Schema r) is = absurd is
+decided_tells (AsData s) text (Data b) is = refl
+decided_tells (AsData s) text (Query r) is = absurd is
+decided_tells AsConst text (Usage u) is = is
+decided_tells AsConst text (TooLong d) is = is.0
+decided_tells AsConst text (Schema r) is = absurd is
+decided_tells AsConst text (Data b) is = absurd is
+decided_tells AsConst text (Query r) is = refl
+
+ruled_refuses : {A : Type 0} (j : Judgement) (text : List ℕ) (decided : Result (Matter j) Refusal) (f : Matter j → Plan A) (x : Refusal) → Decides j text decided
+    → MayRefuse (ruled decided >>= f) x → TellsOf j x ⊎ ((a : Matter j) × MayRefuse (f a) x)
+unfolding MayRefuse ruled ◌>>=◌
+ruled_refuses j text (Ok a) f x is may = inr (a, may)
+ruled_refuses j text (Err r) f x is may = inl (subst (TellsOf j) (sym may) (decided_tells j text r is))
+
+document_refuses : {A : Type 0} (j : Judgement) (name : List ℕ) (f : Matter j → Plan A) (x : Refusal) → MayRefuse (judged_document j name >>= f) x
+    → TellsOf j x ⊎ ((a : Matter j) × MayRefuse (f a) x)
+unfolding MayRefuse judged_document ◌>>=◌
+document_refuses j name f x (text, (decided, is, may)) = ruled_refuses j text decided f x is may
+
+ruled_reads : {A : Type 0} (j : Judgement) (decided : Result (Matter j) Refusal) (f : Matter j → Plan A) (d : Doc) → MayRead (ruled decided >>= f) d
+    → (a : Matter j) × MayRead (f a) d
+unfolding MayRead ruled ◌>>=◌
+ruled_reads j (Ok a) f d may = (a, may)
+ruled_reads j (Err r) f d may = absurd may
+
+document_reads : {A : Type 0} (j : Judgement) (name : List ℕ) (f : Matter j → Plan A) (d : Doc) → MayRead (judged_document j name >>= f) d
+    → (d ≡ doc_of j) ⊎ ((a : Matter j) × MayRead (f a) d)
+unfolding MayRead judged_document ◌>>=◌
+document_reads j name f d (inl e) = inl e
+document_reads j name f d (inr (text, (decided, is, may))) = inr (ruled_reads j decided f d may)
+
+items_end : (xs : List (Item Val)) → (answered xs ≡ Answer (answer_text (values xs))) ⊎ (answered xs ≡ Fail (faults xs))
+items_end xs = by (fault_first (faults xs))
+  where
+    by : (faults xs ≡ []) ⊎ ((f : Fault) × (more : List Fault) × (faults xs ≡ f ∷ more)) → (answered xs ≡ Answer (answer_text (values xs))) ⊎ (answered xs ≡ Fail (faults xs))
+    by (inl clean) = inl (answered_clean xs clean)
+    by (inr (f, more, e)) = inr (answered_faulty xs f more e)
+
+items_refuse : (xs : List (Item Val)) (x : Refusal) → MayRefuse (answered xs) x → ⊥
+unfolding MayRefuse
+items_refuse xs x may = by (items_end xs)
+  where
+    by : (answered xs ≡ Answer (answer_text (values xs))) ⊎ (answered xs ≡ Fail (faults xs)) → ⊥
+    by (inl e) = subst (λ (p : Plan (List ℕ)). MayRefuse p x) e may
+    by (inr e) = subst (λ (p : Plan (List ℕ)). MayRefuse p x) e may
+
+items_read : (xs : List (Item Val)) (d : Doc) → MayRead (answered xs) d → ⊥
+unfolding MayRead
+items_read xs d may = by (items_end xs)
+  where
+    by : (answered xs ≡ Answer (answer_text (values xs))) ⊎ (answered xs ≡ Fail (faults xs)) → ⊥
+    by (inl e) = subst (λ (p : Plan (List ℕ)). MayRead p d) e may
+    by (inr e) = subst (λ (p : Plan (List ℕ)). MayRead p d) e may
+
+answer_refuses : (text : List ℕ) (x : Refusal) → MayRefuse (Answer text) x → ⊥
+unfolding MayRefuse
+answer_refuses text x may = may
+
+answer_reads : (text : List ℕ) (d : Doc) → MayRead (Answer text) d → ⊥
+unfolding MayRead
+answer_reads text d may = may
+
+-- a rule on a document that the task reads may refuse it
+tells_at : (t : Task) (j : Judgement) (x : Refusal) → Reads t (doc_of j) → TellsOf j x → Tells t x
+tells_at t j (Usage u) reads tells = tells
+tells_at t j (TooLong d) reads tells = subst (Reads t) (sym tells) reads
+tells_at t j (Schema r) reads tells = subst (Reads t) (sym tells) reads
+tells_at t j (Data b) reads tells = subst (Reads t) (sym tells) reads
+tells_at t j (Query r) reads tells = subst (Reads t) (sym tells) reads
+
+counted_refuses : (t : Task) (schema : _) (name : List ℕ) (x : Refusal) → Reads t doc.Data → MayRefuse (counted_plan schema name) x → Tells t x
+unfolding counted_plan
+counted_refuses t schema name x reads may = elim (document_refuses (AsData schema) name (λ store. Answer (census schema store)) x may) [
+  | inl tells ↦ tells_at t (AsData schema) x reads tells
+  | inr later ↦ absurd (answer_refuses (census schema later.0) x later.1)
+]
+
+counted_reads : (schema : _) (name : List ℕ) (d : Doc) → MayRead (counted_plan schema name) d → d ≡ doc.Data
+unfolding counted_plan
+counted_reads schema name d may = elim (document_reads (AsData schema) name (λ store. Answer (census schema store)) d may) [
+  | inl e ↦ e
+  | inr later ↦ absurd (answer_reads (census schema later.0) d later.1)
+]
+
+-- The rules that may refuse the plan of a task are those on the documents that it reads.
+pub may_tell : (t : Task) (x : Refusal) → MayRefuse (plan_for t) x → Tells t x
+unfolding const_plan check_plan
+may_tell (Const query) x may = elim (document_refuses AsConst query (λ tree. answered (items tree)) x may) [
+  | inl tells ↦ tells_at (Const query) AsConst x refl tells
+  | inr later ↦ absurd (items_refuse (items later.0) x later.1)
+]
+may_tell (Check schema_name data_name) x may = elim (document_refuses AsSchema schema_name (λ schema. counted_plan schema data_name) x may) [
+  | inl tells ↦ tells_at (Check schema_name data_name) AsSchema x (inl refl) tells
+  | inr later ↦ counted_refuses (Check schema_name data_name) later.0 data_name x (inr refl) later.1
+]
+
+-- The plan of a task reads the documents of the task alone.
+pub may_read : (t : Task) (d : Doc) → MayRead (plan_for t) d → Reads t d
+unfolding const_plan check_plan
+may_read (Const query) d may = elim (document_reads AsConst query (λ tree. answered (items tree)) d may) [
+  | inl e ↦ e
+  | inr later ↦ absurd (items_read (items later.0) d later.1)
+]
+may_read (Check schema_name data_name) d may = elim (document_reads AsSchema schema_name (λ schema. counted_plan schema data_name) d may) [
+  | inl e ↦ inl e
+  | inr later ↦ inr (counted_reads later.0 data_name d later.1)
+]

@@ -1,0 +1,38 @@
+-- What is due for a task, over what the names hold.
+use Rattle.std.specs.Prelude.{◌≡◌, ◌≢◌, ℕ, List, [], Option, Some, None, Result, Ok, Err}
+use Rattle.const_ir.specs.Meaning.{items}
+use Rattle.ev_value.specs.Item.{faults, values}
+use Rattle.ev_value.specs.declared.item.Item.{Item}
+use Rattle.ev_value.specs.declared.value.Val.{Val}
+use Rattle.edge_run.specs.Judgement.{Judgement, AsSchema, AsData, AsConst, Matter, Decides, doc_of}
+use Rattle.edge_run.specs.Modes.{answer_text, census}
+use Rattle.edge_run.specs.Plan.{Verdict, Answers, Refuses, Faults, Missing}
+use Rattle.edge_run.specs.Refusal.{Refusal}
+use Rattle.edge_run.specs.Task.{Task, Const, Check}
+
+-- what is due over what was accepted; or what was refused is told
+abbrev pub OfDecision : {A : Type 0} → Result A Refusal → (A → Verdict (List ℕ) → Type 0) → Verdict (List ℕ) → Type 0
+OfDecision (Ok a) next v = next a v
+OfDecision (Err r) next v = v ≡ Refuses r
+
+-- what is due of a text that is judged so
+abbrev pub OfText : (j : Judgement) → List ℕ → (Matter j → Verdict (List ℕ) → Type 0) → Verdict (List ℕ) → Type 0
+OfText j text next v = (decided : Result (Matter j) Refusal) × Decides j text decided × OfDecision decided next v
+
+-- what is due of a document that is judged so: it is missing, or its whole text is decided on
+abbrev pub OfDocument : (j : Judgement) → Option (List ℕ) → (Matter j → Verdict (List ℕ) → Type 0) → Verdict (List ℕ) → Type 0
+OfDocument j None next v = v ≡ Missing (doc_of j)
+OfDocument j (Some text) next v = OfText j text next v
+
+-- what is due of an answer's items: where none is a fault, the JSON array of their values and a line feed, and else the faults
+abbrev pub OfItems : List (Item Val) → Verdict (List ℕ) → Type 0
+OfItems xs (Answers text) = (faults xs ≡ []) × (text ≡ answer_text (values xs))
+OfItems xs (Faults fs) = (fs ≡ faults xs) × (fs ≢ [])
+OfItems xs (Refuses r) = ⊥
+OfItems xs (Missing d) = ⊥
+
+-- What is due, document by document in the order in which they are read: a later one counts only once the earlier were accepted.
+abbrev pub Due : Task → (List ℕ → Option (List ℕ)) → Verdict (List ℕ) → Type 0
+Due (Const query) files v = OfDocument AsConst (files query) (λ tree. OfItems (items tree)) v
+Due (Check schema_name data_name) files v =
+    OfDocument AsSchema (files schema_name) (λ schema. OfDocument (AsData schema) (files data_name) (λ store w. w ≡ Answers (census schema store))) v

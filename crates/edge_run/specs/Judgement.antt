@@ -1,0 +1,46 @@
+-- What the text of a document is judged as, and what is decided of it.
+use Rattle.std.specs.Prelude.{◌≡◌, ℕ, List, Result, Ok, Err, ◌⊎◌}
+use Rattle.const_ir.specs.declared.expr.Expr.{Expr}
+use Rattle.ev_schema.specs.declared.schema.Schema.{Schema}
+use Rattle.store_check.specs.declared.store.Store.{Store}
+use Rattle.edge_run.specs.Data as of_data
+use Rattle.edge_run.specs.Query as of_query
+use Rattle.edge_run.specs.Refusal.{Refusal, told}
+use Rattle.edge_run.specs.Schema as of_schema
+use Rattle.edge_run.specs.declared.outcome.Doc.{Doc}
+use Rattle.edge_run.specs.declared.outcome.Doc.TheVariants as doc
+use Rattle.edge_run.specs.declared.outcome.Outcome.{Outcome}
+use Rattle.edge_run.specs.declared.outcome.Outcome.TheVariants as outcome
+
+-- a schema, data for a schema, or a query over no schema
+pub data Judgement : Type 0 where
+  AsSchema : Judgement
+  AsData : Schema → Judgement
+  AsConst : Judgement
+
+-- the document whose text is judged so
+abbrev pub doc_of : Judgement → Doc
+doc_of AsSchema = doc.Schema
+doc_of (AsData schema) = doc.Data
+doc_of AsConst = doc.Query
+
+-- what a text that is accepted stands for
+abbrev pub Matter : Judgement → Type 0
+Matter AsSchema = Schema
+Matter (AsData schema) = Store
+Matter AsConst = Expr
+
+-- what the rules decide of a text
+abbrev pub Decides : (j : Judgement) → List ℕ → Result (Matter j) Refusal → Type 0
+Decides AsSchema text decided = of_schema.Decides text decided
+Decides (AsData schema) text decided = of_data.Decides schema text decided
+Decides AsConst text decided = of_query.Decides text decided
+
+-- what was decided, as the code tells it
+abbrev pub as_told : {A : Type 0} → Result A Refusal → Result A Outcome
+as_told (Ok a) = Ok a
+as_told (Err r) = Err (told r)
+
+-- what the rules decide of a text, or that memory ran out
+abbrev pub IsDecided : (j : Judgement) → List ℕ → Result (Matter j) Outcome → Type 0
+IsDecided j text result = (result ≡ Err outcome.Memory) ⊎ ((decided : Result (Matter j) Refusal) × Decides j text decided × (result ≡ as_told decided))

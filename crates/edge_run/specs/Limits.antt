@@ -1,0 +1,19 @@
+-- How long a document may be.
+use Rattle.std.specs.Prelude.{ℕ, ◌<◌, ◌≤◌, List, length}
+use Rattle.edge_run.specs.declared.outcome.Doc.{Doc}
+use Rattle.edge_run.specs.declared.outcome.Doc.TheVariants as doc
+
+-- how many bytes a document may have
+abbrev pub limit_of : Doc → ℕ
+limit_of doc.Schema = 1048576
+limit_of doc.Data = 67108864
+limit_of doc.Query = 1048576
+limit_of doc.Args = 1048576
+
+-- the text has more bytes than the document may have
+abbrev pub IsLong : Doc → List ℕ → Type 0
+IsLong d text = limit_of d < length text
+
+-- the text has no more bytes than the document may have
+abbrev pub IsShort : Doc → List ℕ → Type 0
+IsShort d text = length text ≤ limit_of d
