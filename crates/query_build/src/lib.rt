@@ -1,0 +1,7 @@
+//! The trees of queries over a schema, from surface trees.
+#![tactic(auto)]
+
+mod built;
+mod path;
+
+pub use built::{BuildError, build_query};
