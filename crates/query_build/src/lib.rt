@@ -3,5 +3,7 @@
 
 mod built;
 mod path;
+#[cfg(test)]
+mod tests;
 
 pub use built::{BuildError, build_query};
