@@ -1,6 +1,8 @@
 //! The top call: from the words of a command line to the bytes of the answer.
 #![tactic(auto)]
 
+mod answers;
+mod args;
 mod data;
 mod deliver;
 mod document;
@@ -9,6 +11,7 @@ mod laws;
 mod modes;
 mod outcome;
 mod query;
+mod reading;
 mod run;
 mod schema;
 #[cfg(test)]
