@@ -7,4 +7,5 @@ mod HeadIds
 mod Repeats
 mod Clashes
 mod Listed
+mod Places
 mod StoreLaws
