@@ -2,10 +2,21 @@ mod Notes
 mod HeadTurns
 mod ObjectTurns
 mod Ruled
-mod IdOrder
+pub mod IdOrder
 mod HeadIds
-mod Repeats
+pub mod Repeats
 mod Clashes
 mod Listed
 mod Places
+pub mod Sorted
+pub mod NoFlaw
+mod Pieces
+mod PropertyValues
+pub mod Contained
+mod LinkTargets
+mod Entries
+mod PointerFits
+mod HeadTypes
+mod Found
+mod ObjectFits
 mod StoreLaws
