@@ -1,9 +1,7 @@
 -- The entries of an object: which pointers they are of, and where they stand.
-use Rattle.std.proofs.Common.{◌≡◌, ◌≢◌, ℕ, zero, suc, ◌<◌, ◌==◌, Bool, true, false, ◌||◌, List, [], ◌∷◌, ◌++◌, length, get_or, flat_map, Option, Some, None, slice_get, cond, eq-eqb, refl, sym, ap, ◌∙◌, subst, arith}
+use Rattle.std.proofs.Common.{◌≡◌, ℕ, zero, suc, ◌<◌, ◌==◌, Bool, true, false, ◌||◌, List, [], ◌∷◌, ◌++◌, length, get_or, flat_map, Option, Some, None, slice_get, cond, eq-eqb, refl, sym, ap, ◌∙◌, subst, arith}
 use Rattle.std.proofs.lemmas.Bool.{eqb-true}
-use Rattle.std.specs.Cmp.Lexicographic.{slice_cmp}
 use Rattle.std.specs.List.{list_any, Contains}
-use Rattle.std.specs.Ordering.{nat_cmp, is_lt}
 use Rattle.core_ir.specs.declared.path.PtrId.{PtrId}
 use Rattle.core_ir.specs.declared.path.TypeId.{TypeId}
 use Rattle.core_ir.specs.declared.ty.Ty.{Ty}
@@ -15,9 +13,6 @@ use Rattle.ev_schema.specs.declared.pointer.Body.{Body}
 use Rattle.ev_schema.specs.declared.pointer.Body.TheVariants as body
 use Rattle.ev_schema.specs.declared.pointer.PtrInfo.{PtrInfo}
 use Rattle.ev_schema.specs.declared.schema.Schema.{Schema}
-use Rattle.ev_value.specs.Order.{val_cmp}
-use Rattle.ev_value.specs.declared.value.Val.{Val}
-use Rattle.ev_value.specs.declared.value.Val.TheVariants as val
 use Rattle.obj_draft.specs.Members.{member}
 use Rattle.obj_draft.specs.declared.draft.Element.{Element}
 use Rattle.obj_draft.specs.declared.draft.Member.{Member}
@@ -28,10 +23,10 @@ use Rattle.draft_values.specs.Elements.{elements}
 use Rattle.draft_values.specs.Made.{stored_entry, entry_of, entry_if_known, entries, named_pointers, pointers_in_order}
 use Rattle.store_check.specs.Laws.{NamesDiffer}
 use Rattle.store_check.proofs.Contained.{each_contained}
-use Rattle.store_check.proofs.IdOrder.{ascend_more}
 use Rattle.store_check.proofs.Listed.{skipped, known_other}
+use Rattle.store_check.proofs.NameOrder.{name_key, by_names, names_ascend}
 use Rattle.store_check.proofs.Pieces.{OneAtMost, ascend_flat}
-use Rattle.store_check.proofs.Sorted.{keyed, all_keyed, sorted, earlier, sorted_is, each_sorted, any_sorted, KeysDiffer, ascend_sorted}
+use Rattle.store_check.proofs.Sorted.{keyed, all_keyed, sorted, sorted_is, each_sorted, any_sorted}
 
 -- ---- a pointer has one entry at most
 
@@ -66,48 +61,26 @@ entries_are infos ms (p ∷ more) = ap (λ l. entry_at infos ms p ++ l) (entries
 abbrev pub name_at : List PtrInfo → PtrId → List ℕ
 name_at infos p = name_of (slice_get infos p.0)
 
-abbrev key_of : List PtrInfo → PtrId → Val
-key_of infos p = val.Str (name_at infos p)
-
-texts_cmp : (m n : List ℕ) → val_cmp (val.Str m) (val.Str n) ≡ slice_cmp nat_cmp m n
-unfolding val_cmp
-texts_cmp m n = refl
-
-named_are : (infos : List PtrInfo) (ps : List PtrId) → named_pointers infos ps ≡ all_keyed (key_of infos) ps
+named_are : (infos : List PtrInfo) (ps : List PtrId) → named_pointers infos ps ≡ all_keyed (name_key (name_at infos)) ps
 named_are infos [] = refl
-named_are infos (p ∷ more) = ap (λ l. keyed (key_of infos) p ∷ l) (named_are infos more)
+named_are infos (p ∷ more) = ap (λ l. keyed (name_key (name_at infos)) p ∷ l) (named_are infos more)
 
-order_is : (s : Schema) (t : TypeId) → pointers_in_order s t ≡ sorted (key_of s.pointers) (listed_pointers s.types t)
-order_is s t = ap (λ l. keyless (in_order by_name l)) (named_are s.pointers (listed_pointers s.types t)) ∙ sorted_is (key_of s.pointers) (listed_pointers s.types t)
+order_is : (s : Schema) (t : TypeId) → pointers_in_order s t ≡ sorted (name_key (name_at s.pointers)) (listed_pointers s.types t)
+order_is s t = ap (λ l. keyless (in_order by_name l)) (named_are s.pointers (listed_pointers s.types t)) ∙ sorted_is (name_key (name_at s.pointers)) (listed_pointers s.types t)
 
 -- each of them is a pointer of the type
 pub all_listed : (s : Schema) (t : TypeId) → Each (Contains (listed_pointers s.types t)) (pointers_in_order s t)
 all_listed s t =
     let ps = listed_pointers s.types t in
-    subst (Each (Contains ps)) (sym (order_is s t)) (each_sorted (key_of s.pointers) (Contains ps) ps (each_contained ps))
+    subst (Each (Contains ps)) (sym (order_is s t)) (each_sorted (name_key (name_at s.pointers)) (Contains ps) ps (each_contained ps))
 
-apart : (infos : List PtrInfo) (p : PtrId) (ps : List PtrId) → Each (λ q. name_at infos p ≢ name_at infos q) ps → Each (λ q. key_of infos p ≢ key_of infos q) ps
-apart infos p [] h = tt
-apart infos p (q ∷ more) h = ((λ e. let same : name_at infos p ≡ name_at infos q = cc in h.0 same), apart infos p more h.1)
-
-keys_differ : (infos : List PtrInfo) (ps : List PtrId) → NamesDiffer (name_at infos) ps → KeysDiffer (key_of infos) ps
-keys_differ infos [] h = tt
-keys_differ infos (p ∷ more) h = (apart infos p more h.0, keys_differ infos more h.1)
-
-abbrev by_names : List PtrInfo → PtrId → PtrId → Bool
-by_names infos p q = text_before (name_at infos p) (name_at infos q)
-
-pointers_ascend : (s : Schema) (t : TypeId) → NamesDiffer (name_at s.pointers) (listed_pointers s.types t) → Ascend (by_names s.pointers) (pointers_in_order s t)
-pointers_ascend s t d =
-    let key = key_of s.pointers in
-    subst (Ascend (by_names s.pointers)) (sym (order_is s t))
-    (ascend_more (earlier key) (by_names s.pointers) (λ p q h. ap is_lt (sym (texts_cmp (name_at s.pointers p) (name_at s.pointers q))) ∙ h)
-    (sorted key (listed_pointers s.types t)) (ascend_sorted key (listed_pointers s.types t) (keys_differ s.pointers (listed_pointers s.types t) d)))
+pointers_ascend : (s : Schema) (t : TypeId) → NamesDiffer (name_at s.pointers) (listed_pointers s.types t) → Ascend (by_names (name_at s.pointers)) (pointers_in_order s t)
+pointers_ascend s t d = subst (Ascend (by_names (name_at s.pointers))) (sym (order_is s t)) (names_ascend (name_at s.pointers) (listed_pointers s.types t) d)
 
 pub entries_ascend : (s : Schema) (t : TypeId) (ms : List Member) → NamesDiffer (name_at s.pointers) (listed_pointers s.types t) → Ascend (entry_before s) (entries s.pointers ms (pointers_in_order s t))
 entries_ascend s t ms d =
     subst (Ascend (entry_before s)) (sym (entries_are s.pointers ms (pointers_in_order s t)))
-    (ascend_flat (entry_at s.pointers ms) OfPointer (λ p. one_if_known ms p (slice_get s.pointers p.0)) (by_names s.pointers) (entry_before s)
+    (ascend_flat (entry_at s.pointers ms) OfPointer (λ p. one_if_known ms p (slice_get s.pointers p.0)) (by_names (name_at s.pointers)) (entry_before s)
     (λ a c b d r q h. (λ i. text_before (name_at s.pointers (r i)) (name_at s.pointers (q i))) ∙ h)
     (pointers_in_order s t) (pointers_ascend s t d))
 
@@ -134,7 +107,7 @@ any_at test (x ∷ xs) (suc k) p l e h = second (test x) (list_any test xs) (any
 
 pub is_in_order : (s : Schema) (t : TypeId) (p : PtrId) → Contains (listed_pointers s.types t) p → list_any (is_number p) (pointers_in_order s t) ≡ true
 is_in_order s t p c =
-    ap (list_any (is_number p)) (order_is s t) ∙ any_sorted (key_of s.pointers) (is_number p) (listed_pointers s.types t)
+    ap (list_any (is_number p)) (order_is s t) ∙ any_sorted (name_key (name_at s.pointers)) (is_number p) (listed_pointers s.types t)
     ∙ any_at (is_number p) (listed_pointers s.types t) c.0 p c.1 c.2 (eq-eqb p.0 p.0 refl)
 
 pub each_at : (P : PtrId → Type 0) (p : PtrId) (ps : List PtrId) → list_any (is_number p) ps ≡ true → Each P ps → P p

@@ -7,8 +7,9 @@ mod HeadIds
 pub mod Repeats
 mod Clashes
 mod Listed
-mod Places
+pub mod Places
 pub mod Sorted
+pub mod NameOrder
 pub mod NoFlaw
 mod Pieces
 mod PropertyValues
@@ -19,4 +20,4 @@ mod PointerFits
 mod HeadTypes
 mod Found
 mod ObjectFits
-mod StoreLaws
+pub mod StoreLaws
