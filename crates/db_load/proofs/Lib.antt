@@ -1,1 +1,1 @@
-mod Loaded
+pub mod Loaded

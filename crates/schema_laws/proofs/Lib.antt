@@ -4,4 +4,4 @@ mod Numbered
 mod TypePointers
 mod LinkOrder
 mod PointerInfos
-mod BuiltSchemas
+pub mod BuiltSchemas
