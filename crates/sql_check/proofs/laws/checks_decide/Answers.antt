@@ -1,0 +1,5 @@
+use Rattle.sql_check.proofs.Sound.{sound}
+use Rattle.sql_check.proofs.laws.checks_decide.Goals as goal
+
+pub returns : goal.returns
+returns c = record { sound = sound }
