@@ -29,6 +29,9 @@ six us vs ws xs ys zs h =
     let h4 : ys ++ zs ≡ [] = no_more xs _ h3 in
     (no_first us _ h, no_first vs _ h1, no_first ws _ h2, no_first xs _ h3, no_first ys zs h4, no_more ys zs h4)
 
+pub six_none : (us vs ws xs ys zs : List ℕ) → Six us vs ws xs ys zs → us ++ (vs ++ (ws ++ (xs ++ (ys ++ zs)))) ≡ []
+six_none us vs ws xs ys zs h = none_of_both us _ h.0 (none_of_both vs _ h.1 (none_of_both ws _ h.2 (none_of_both xs _ h.3 (none_of_both ys zs h.4 h.5))))
+
 pub holds : (b : Bool) (byte : ℕ) → unless b byte ≡ [] → b ≡ true
 holds true byte h = refl
 holds false byte h = absurd (cc h)

@@ -11,3 +11,5 @@ pub mod Emptiness
 pub mod Verdicts
 pub mod Scopes
 pub mod Sound
+pub mod Judged
+pub mod Complete

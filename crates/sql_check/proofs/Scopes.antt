@@ -10,7 +10,7 @@ use Rattle.sql_ast.specs.declared.catalog.TableShape.{TableShape}
 use Rattle.sql_ast.specs.declared.catalog.Typed.{Typed}
 use Rattle.sql_ast.specs.declared.select.FromItem.{FromItem}
 use Rattle.sql_ast.specs.declared.ty.SqlTy.{SqlTy}
-use Rattle.sql_ast.specs.WellFormed.{Name, AreApart, alias_of, columns_under, names_of, type_under, types_of}
+use Rattle.sql_ast.specs.WellFormed.{Name, AreApart, alias_of, columns_under, element_column, names_of, type_under, types_of}
 use Rattle.sql_ast.specs.WellFormed as formed
 use Rattle.sql_check.specs.declared.sort.Known.{Known}
 use Rattle.sql_check.specs.Names.{Scope, with_items, has_alias, has_column, is_among, is_column, is_listed, is_there}
@@ -209,3 +209,20 @@ listed_sound name (Some cs) h = let found : (t : SqlTy) × (type_under name cs �
 pub all_typed : (cs : List Typed) → all_types (sorts_of cs) ≡ Some (types_of cs)
 all_typed [] = refl
 all_typed (x ∷ more) = rw (all_typed more) refl
+
+-- ---- the names that columns give
+
+pub column_gives : (name other : Name) (t : SqlTy) (b : Bool) (cs : List Typed) → b ≡ is_there (type_under other cs)
+    → (if bytes_eq name other then true else b) ≡ is_there (if bytes_eq name other then Some t else type_under other cs)
+column_gives name other t b cs h = by_case (bytes_eq name other)
+  where
+    by_case : (is : Bool) → (if is then true else b) ≡ is_there (if is then Some t else type_under other cs)
+    by_case true = refl
+    by_case false = h
+
+pub element_gives : (name : Name) (t : SqlTy) → bytes_eq (codes "c1") name ≡ is_there (type_under name (element_column t))
+element_gives name t = by_case (bytes_eq (codes "c1") name)
+  where
+    by_case : (is : Bool) → is ≡ is_there (if is then Some t else None)
+    by_case true = refl
+    by_case false = refl

@@ -33,7 +33,7 @@ use Rattle.sql_check.specs.Spelled.{MayBegin, IsSpelled, AreSpelled, CoresAreSpe
 use Rattle.sql_check.specs.Types.{Sorts, known, over, failing, wanted, is_of, is_scalar, is_array, unary_verdict, binary_verdict, function_verdict, cast_verdict, part_verdict, case_verdict, arg_verdict, array_verdict, row_verdict, alike, all_types, type_in, with_first, sorts_of, table_sorts, element_sort, element_in, verdict, verdicts, select_sorts, core_sorts, column_sorts, within, item_sorts, types_in, types_in_all, types_in_cores, types_in_further, types_in_core, types_in_columns, types_in_items, types_in_item, types_in_keys, types_in_key, types_in_option, types_in_further_list, types_in_list}
 use Rattle.sql_check.specs.Walk.{start, inner, rest, parts_of}
 use Rattle.sql_check.proofs.Emptiness.{Six, six, no_first, no_more, holds, holds_not, are_alike}
-use Rattle.sql_check.proofs.Scopes.{AreNew, AreAliases, IsGivenBy, Gives, sorted, type_listed, none_new, no_aliases, new_first, apart_first, one_alias, new_alias, with_more, column_is, type_is, there_sound, listed_sound, all_typed}
+use Rattle.sql_check.proofs.Scopes.{AreNew, AreAliases, IsGivenBy, Gives, sorted, type_listed, none_new, no_aliases, new_first, apart_first, one_alias, new_alias, with_more, column_is, type_is, column_gives, element_gives, there_sound, listed_sound, all_typed}
 use Rattle.sql_check.proofs.TyForms.{element_array}
 use Rattle.sql_check.proofs.Verdicts.{IsJudged, IsPart, IsCast, placed, equal_lists, scalar_it_is, scalar_sound, array_sound, unary_sound, binary_sound, function_sound, cast_sound, part_sound, case_sound, arg_sound}
 
@@ -62,21 +62,6 @@ chosen : (v w u : Verdict) (a b c : SqlTy) → v ≡ Has a → w ≡ Has b → u
 chosen v w u a b c e f g h = rw (e, f, g, h) refl
 
 -- ---- columns and items
-
-column_gives : (name other : Name) (t : SqlTy) (b : Bool) (cs : List Typed) → b ≡ is_there (type_under other cs)
-    → (if bytes_eq name other then true else b) ≡ is_there (if bytes_eq name other then Some t else type_under other cs)
-column_gives name other t b cs h = by_case (bytes_eq name other)
-  where
-    by_case : (is : Bool) → (if is then true else b) ≡ is_there (if is then Some t else type_under other cs)
-    by_case true = refl
-    by_case false = h
-
-element_gives : (name : Name) (t : SqlTy) → bytes_eq (codes "c1") name ≡ is_there (type_under name (element_column t))
-element_gives name t = by_case (bytes_eq (codes "c1") name)
-  where
-    by_case : (is : Bool) → is ≡ is_there (if is then Some t else None)
-    by_case true = refl
-    by_case false = refl
 
 -- the first of these may stand first
 abbrev Begins : {m : _} → Row_of-FromItem m → Type 0

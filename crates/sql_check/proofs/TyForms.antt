@@ -63,7 +63,7 @@ array_row t us = refl
 pub array_of : (t : SqlTy) → is_array (ty.Array t) ≡ true
 array_of t = refl
 
-scalar_itself : (s : ScalarTy) → same_scalar s s ≡ true
+pub scalar_itself : (s : ScalarTy) → same_scalar s s ≡ true
 scalar_itself scalar.Int64 = refl
 scalar_itself scalar.Str = refl
 scalar_itself scalar.Bool = refl
@@ -75,7 +75,7 @@ both_true a b e f = rw (e, f) refl
 mutual
   unfolding same_type
 
-  same_itself : (t : SqlTy) → same_type t t ≡ true
+  pub same_itself : (t : SqlTy) → same_type t t ≡ true
   same_itself (d.Scalar s) = scalar_itself s
   same_itself (d.Row' _ row) = row_itself row
   same_itself (d.Array' _ (d.more_of-SqlTy t d.end_of-SqlTy)) = same_itself t

@@ -1,5 +1,6 @@
+use Rattle.sql_check.proofs.Complete.{complete}
 use Rattle.sql_check.proofs.Sound.{sound}
 use Rattle.sql_check.proofs.laws.checks_decide.Goals as goal
 
 pub returns : goal.returns
-returns c = record { sound = sound }
+returns c = record { sound = sound; complete = complete }
