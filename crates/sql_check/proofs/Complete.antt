@@ -1,7 +1,5 @@
 -- No name and no type of a well-formed statement fails.
-use Rattle.std.proofs.Common.{◌≡◌, ℕ, Bool, true, false, not, List, [], ◌∷◌, ◌++◌, Option, Some, None, if◌then◌else◌, refl, ap, sym, ◌∙◌, subst}
-use Rattle.std.specs.Str.{bytes_eq}
-use Rattle.ev_value.specs.declared.value.ScalarTy.{ScalarTy}
+use Rattle.std.proofs.Common.{◌≡◌, ℕ, Bool, true, not, List, [], ◌∷◌, ◌++◌, Option, Some, refl, ap, sym, ◌∙◌, subst}
 use Rattle.ev_value.specs.declared.value.ScalarTy.TheVariants as scalar
 use Rattle.ev_list.specs.declared.param.Param.{Param}
 use Rattle.sql_ast.specs.declared.catalog.Catalog.{Catalog}
@@ -19,16 +17,16 @@ use Rattle.sql_ast.specs.declared.select.Stmt.{Stmt}
 use Rattle.sql_ast.specs.declared.ty.SqlTy.{SqlTy}
 use Rattle.sql_ast.specs.declared.ty.SqlTy.TheVariants as ty
 use Rattle.sql_ast.specs.Params.{args_of, params_of, type_of_param}
-use Rattle.sql_ast.specs.Types.{INT, TEXT, BOOL, UUID, UnaryType, BinaryType, FunctionType}
+use Rattle.sql_ast.specs.Types.{INT, BOOL}
 use Rattle.sql_ast.specs.WellFormed.{Name, IsNotEmpty, IsWellFormed, AreApart, HasType, HaveTypes, HasColumns, AreLike, CoreHas, HaveAliases, ItemHas, ColumnsHave, AreKeys, IsKey, IsCondition, IsBound, AreAllLike, SelectHas, alias_of, columns_under, element_column, names_of, type_under, types_of}
 use Rattle.sql_ast.specs.WellFormed as formed
 use Rattle.sql_ast.proofs.ParamsInOrder.{those_that_occur}
 use Rattle.sql_grammar.specs.declared.grown.Places.{Places}
 use Rattle.sql_check.specs.declared.sort.Sort.{Sort}
 use Rattle.sql_check.specs.declared.verdict.Verdict.{Verdict}
-use Rattle.sql_check.specs.declared.verdict.Verdict.TheVariants.{Has, Fails, Unjudged}
+use Rattle.sql_check.specs.declared.verdict.Verdict.TheVariants.{Has}
 use Rattle.sql_check.specs.Laws.{HasNoFault}
-use Rattle.sql_check.specs.Names.{Scope, at_items, at_condition, at_keys, at_offset, at_limit, with_items, inside, gives_column, core_gives, select_gives, has_alias, has_column, is_among, is_column, is_listed, is_there, unless, names_in, names_in_all, names_in_cores, names_in_core, names_in_columns, names_in_items, names_in_item, names_in_keys, names_in_key, names_in_option, names_in_list}
+use Rattle.sql_check.specs.Names.{Scope, at_items, at_condition, at_keys, at_offset, at_limit, with_items, inside, gives_column, core_gives, select_gives, has_alias, has_column, is_among, is_listed, is_there, unless, names_in, names_in_all, names_in_cores, names_in_core, names_in_columns, names_in_items, names_in_item, names_in_keys, names_in_key, names_in_option, names_in_list}
 use Rattle.sql_check.specs.Types.{Sorts, known, over, failing, wanted, is_of, is_scalar, is_array, unary_verdict, binary_verdict, function_verdict, cast_verdict, part_verdict, case_verdict, arg_verdict, array_verdict, row_verdict, alike, unless_alike, all_types, type_in, with_first, sorts_of, table_sorts, element_sort, element_in, verdict, verdicts, select_sorts, core_sorts, column_sorts, within, item_sorts, types_in, types_in_all, types_in_cores, types_in_further, types_in_core, types_in_columns, types_in_items, types_in_item, types_in_keys, types_in_key, types_in_option, types_in_further_list, types_in_list}
 use Rattle.sql_check.specs.Walk.{start, inner, rest, parts_of}
 use Rattle.sql_check.proofs.Emptiness.{none_of_both, six_none}

@@ -1,10 +1,8 @@
 -- Where no fault is told.
 use Rattle.std.proofs.Common.{◌≡◌, ℕ, Bool, true, false, not, List, [], ◌∷◌, ◌++◌, refl, ap, ◌∙◌}
 use Rattle.sql_ast.specs.declared.ty.SqlTy.{SqlTy}
-use Rattle.sql_check.specs.declared.verdict.Verdict.{Verdict}
-use Rattle.sql_check.specs.declared.verdict.Verdict.TheVariants.{Has, Fails, Unjudged}
 use Rattle.sql_check.specs.Names.{unless}
-use Rattle.sql_check.specs.Types.{failing, has_if, over, wanted, unless_alike}
+use Rattle.sql_check.specs.Types.{failing, has_if, unless_alike}
 
 pub no_first : (xs ys : List ℕ) → xs ++ ys ≡ [] → xs ≡ []
 no_first [] ys h = refl

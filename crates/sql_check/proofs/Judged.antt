@@ -1,5 +1,5 @@
 -- What an operator, a cast, a function or a part may have as its type is what the tables of types say.
-use Rattle.std.proofs.Common.{◌≡◌, ◌⊎◌, inl, inr, ℕ, suc, pos, Bool, true, false, ◌&&◌, List, [], ◌∷◌, Option, Some, None, slice_get, refl, ap, sym, ◌∙◌}
+use Rattle.std.proofs.Common.{◌≡◌, ◌⊎◌, inl, inr, ℕ, suc, pos, Bool, true, ◌&&◌, List, [], Option, Some, slice_get, refl, ap, sym, ◌∙◌}
 use Rattle.ev_value.specs.declared.value.ScalarTy.{ScalarTy}
 use Rattle.ev_value.specs.declared.value.ScalarTy.TheVariants as scalar
 use Rattle.sql_ast.specs.declared.expression.BinaryOp.{BinaryOp}
@@ -10,10 +10,10 @@ use Rattle.sql_ast.specs.declared.expression.UnaryOp.{UnaryOp}
 use Rattle.sql_ast.specs.declared.expression.UnaryOp.TheVariants as unary
 use Rattle.sql_ast.specs.declared.ty.SqlTy.{SqlTy}
 use Rattle.sql_ast.specs.declared.ty.SqlTy.TheVariants as ty
-use Rattle.sql_ast.specs.Types.{INT, TEXT, BOOL, IsScalar, UnaryType, BinaryType, Compared, Both, FunctionType, Casts}
+use Rattle.sql_ast.specs.Types.{INT, BOOL, IsScalar, UnaryType, BinaryType, Compared, Both, FunctionType, Casts}
 use Rattle.sql_check.specs.declared.verdict.Verdict.{Verdict}
-use Rattle.sql_check.specs.declared.verdict.Verdict.TheVariants.{Has, Fails, Unjudged}
-use Rattle.sql_check.specs.Types.{same_type, is_of, is_scalar, has_if, has_some, failing, wanted, closed, compared, element_of, with_element, unary_verdict, binary_verdict, function_verdict, casts, cast_verdict, part_verdict, case_verdict, arg_verdict, same_scalar}
+use Rattle.sql_check.specs.declared.verdict.Verdict.TheVariants.{Has}
+use Rattle.sql_check.specs.Types.{is_of, is_scalar, has_if, has_some, failing, wanted, closed, compared, element_of, with_element, unary_verdict, binary_verdict, function_verdict, casts, cast_verdict, part_verdict, case_verdict, arg_verdict}
 use Rattle.sql_check.proofs.TyForms.{scalar_itself, same_itself, element_array, part_row}
 use Rattle.sql_check.proofs.Verdicts.{IsCast}
 

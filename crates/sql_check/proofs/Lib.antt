@@ -13,3 +13,4 @@ pub mod Scopes
 pub mod Sound
 pub mod Judged
 pub mod Complete
+pub mod WellSpelled

@@ -1,6 +1,5 @@
 -- A statement as reading gives it, of which no name and no type fails, is well formed.
-use Rattle.std.proofs.Common.{◌≡◌, ◌⊎◌, inl, inr, ℕ, Bool, true, false, List, [], ◌∷◌, ◌++◌, codes, Option, Some, None, if◌then◌else◌, refl, ap, sym, ◌∙◌, subst}
-use Rattle.std.specs.Str.{bytes_eq}
+use Rattle.std.proofs.Common.{◌≡◌, ◌⊎◌, inl, inr, ℕ, true, false, List, [], ◌∷◌, ◌++◌, Option, Some, refl, ap, sym, ◌∙◌, subst}
 use Rattle.ev_value.specs.declared.value.ScalarTy.{ScalarTy}
 use Rattle.ev_value.specs.declared.value.ScalarTy.TheVariants as scalar
 use Rattle.ev_list.specs.declared.param.Param.{Param}
@@ -26,9 +25,9 @@ use Rattle.sql_ast.proofs.ParamsInOrder.{those_that_occur}
 use Rattle.sql_grammar.specs.declared.grown.Places.{Places}
 use Rattle.sql_check.specs.declared.sort.Sort.{Sort}
 use Rattle.sql_check.specs.declared.verdict.Verdict.{Verdict}
-use Rattle.sql_check.specs.declared.verdict.Verdict.TheVariants.{Has, Fails, Unjudged}
+use Rattle.sql_check.specs.declared.verdict.Verdict.TheVariants.{Has}
 use Rattle.sql_check.specs.Laws.{HasNoFault}
-use Rattle.sql_check.specs.Names.{Scope, at_items, at_condition, at_keys, at_offset, at_limit, with_items, inside, gives_column, core_gives, select_gives, has_alias, has_column, is_among, is_column, is_listed, is_there, unless, names_in, names_in_all, names_in_cores, names_in_core, names_in_columns, names_in_items, names_in_item, names_in_keys, names_in_key, names_in_option, names_in_list}
+use Rattle.sql_check.specs.Names.{Scope, at_items, at_condition, at_keys, at_offset, at_limit, with_items, inside, gives_column, core_gives, select_gives, has_alias, has_column, is_among, is_listed, names_in, names_in_all, names_in_cores, names_in_core, names_in_columns, names_in_items, names_in_item, names_in_keys, names_in_key, names_in_option, names_in_list}
 use Rattle.sql_check.specs.Spelled.{MayBegin, IsSpelled, AreSpelled, CoresAreSpelled, FurtherAreSpelled, CoreIsSpelled, ColumnsAreSpelled, FurtherColumnsAreSpelled, FromIsSpelled, ItemsAreSpelled, ItemIsSpelled, KeysAreSpelled, KeyIsSpelled, HeldIsSpelled, FurtherCoresAreSpelled, SelectIsSpelled, StatementIsSpelled}
 use Rattle.sql_check.specs.Types.{Sorts, known, over, failing, wanted, is_of, is_scalar, is_array, unary_verdict, binary_verdict, function_verdict, cast_verdict, part_verdict, case_verdict, arg_verdict, array_verdict, row_verdict, alike, all_types, type_in, with_first, sorts_of, table_sorts, element_sort, element_in, verdict, verdicts, select_sorts, core_sorts, column_sorts, within, item_sorts, types_in, types_in_all, types_in_cores, types_in_further, types_in_core, types_in_columns, types_in_items, types_in_item, types_in_keys, types_in_key, types_in_option, types_in_further_list, types_in_list}
 use Rattle.sql_check.specs.Walk.{start, inner, rest, parts_of}

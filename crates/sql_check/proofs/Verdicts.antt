@@ -1,5 +1,5 @@
 -- What the tables of types say is what an operator, a cast, a function or a part may have as its type.
-use Rattle.std.proofs.Common.{◌≡◌, ◌⊎◌, inl, inr, ℕ, zero, suc, ℤ, pos, negsuc, Bool, true, false, ◌&&◌, ◌||◌, List, [], ◌∷◌, Option, Some, None, slice_get, refl, ap, sym, ◌∙◌, subst}
+use Rattle.std.proofs.Common.{◌≡◌, inl, inr, ℕ, zero, suc, ℤ, pos, negsuc, Bool, true, false, ◌&&◌, List, [], ◌∷◌, Option, Some, None, slice_get, refl, ap, sym, ◌∙◌, subst}
 use Rattle.ev_value.specs.declared.value.ScalarTy.{ScalarTy}
 use Rattle.ev_value.specs.declared.value.ScalarTy.TheVariants as scalar
 use Rattle.sql_ast.specs.declared.expression.BinaryOp.{BinaryOp}
@@ -13,9 +13,9 @@ use Rattle.sql_ast.specs.declared.ty.SqlTy.{SqlTy, Row_of-SqlTy, end_of-SqlTy, m
 use Rattle.sql_ast.specs.declared.ty.SqlTy.TheVariants as ty
 use Rattle.sql_ast.specs.declared.ty.SqlTy.TheOpen as open_ty
 use Rattle.sql_ast.specs.declared.ty.SqlTy.TheBlock as block
-use Rattle.sql_ast.specs.Types.{INT, TEXT, BOOL, IsScalar, UnaryType, BinaryType, Compared, Both, FunctionType, Casts}
+use Rattle.sql_ast.specs.Types.{INT, BOOL, IsScalar, UnaryType, BinaryType, Compared, Both, FunctionType, Casts}
 use Rattle.sql_check.specs.declared.verdict.Verdict.{Verdict}
-use Rattle.sql_check.specs.declared.verdict.Verdict.TheVariants.{Has, Fails, Unjudged}
+use Rattle.sql_check.specs.declared.verdict.Verdict.TheVariants.{Has}
 use Rattle.sql_check.specs.Types.{same_scalar, same_type, same_types, all_same, is_of, is_scalar, is_array, has_if, has_some, failing, wanted, closed, compared, element_of, with_element, unary_verdict, binary_verdict, function_verdict, casts, cast_verdict, type_at, part_verdict, case_verdict, arg_verdict}
 use Rattle.sql_check.proofs.Emptiness.{has_it}
 use denote.Hole.Carrier.{shown-items, list-listed}

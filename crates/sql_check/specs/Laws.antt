@@ -18,3 +18,4 @@ pub record HasNoFault (catalog : Catalog) (s : Stmt) (place : Places) : Type 0 w
 pub record ChecksDecide : Type 0 where
   pub sound : (catalog : Catalog) (s : Stmt) (place : Places) → StatementIsSpelled s → HasNoFault catalog s place → IsWellFormed catalog s
   pub complete : (catalog : Catalog) (s : Stmt) (place : Places) → IsWellFormed catalog s → HasNoFault catalog s place
+  pub spelled : (catalog : Catalog) (s : Stmt) → IsWellFormed catalog s → StatementIsSpelled s

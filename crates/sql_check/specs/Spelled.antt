@@ -1,6 +1,6 @@
 -- What reading gives of a tree: its numbers are not negative, its names can stand between quotes, no list is empty that may not
 -- be, and no FROM begins with an outer join. Of these a check of names and types says nothing.
-use Rattle.std.specs.Prelude.{ℕ, ℤ, pos, ◌≤ℤ◌, ◌≤◌, List, [], ◌∷◌}
+use Rattle.std.specs.Prelude.{pos, ◌≤ℤ◌, ◌≤◌, List, [], ◌∷◌}
 use Rattle.sql_ast.specs.declared.expression.SqlExpr as e
 use Rattle.sql_ast.specs.declared.expression.SqlExpr.{SqlExpr, Row_of-SqlExpr, end_of-SqlExpr, more_of-SqlExpr, Row_of-Core, end_of-Core, more_of-Core}
 use Rattle.sql_ast.specs.declared.select.Core as c
