@@ -1,12 +1,15 @@
 -- What is answered of a tree that a text spells.
-use Rattle.std.proofs.Common.{◌≡◌, ◌⊎◌, inl, inr, ℕ, List, [], length, Option, Some, Result, Ok, Err, refl, ap, subst, arith}
+use Rattle.std.proofs.Common.{◌≡◌, ◌⊎◌, inl, inr, ℕ, List, [], length, Some, Result, Ok, Err, IfOk, refl, ap, sym, subst, arith}
 use Rattle.sql_ast.specs.declared.catalog.Catalog.{Catalog}
 use Rattle.sql_ast.specs.declared.select.Stmt.{Stmt}
+use Rattle.sql_ast.specs.WellFormed.{IsWellFormed}
 use Rattle.sql_grammar.specs.declared.grown.GrownSelect.{GrownSelect}
 use Rattle.sql_read.specs.Promise.{IsTextOf}
 use Rattle.sql_read.specs.declared.text.TextRefusal.{TextRefusal}
 use Rattle.sql_read.specs.declared.text.TextRefusal.TheVariants as read
 use Rattle.sql_check.specs.Walk.{IsLeast}
+use Rattle.sql_check.proofs.Sound.{sound}
+use Rattle.sql_parse.proofs.ReadTrees.{text_spelled}
 use Rattle.sql_parse.specs.declared.parse.SqlRefusal.{SqlRefusal}
 use Rattle.sql_parse.specs.declared.parse.SqlRefusal.TheVariants as refusal
 use Rattle.sql_parse.specs.Promise.{statement_of, names_failing, types_failing, IsChecked, Holds, IsAnswered}
@@ -37,3 +40,8 @@ one_tree catalog x y r (inr e) h = absurd (cc e)
 
 pub answered : (text : List ℕ) (catalog : Catalog) (x : GrownSelect) (r : Result Stmt SqlRefusal) → ((y : GrownSelect) → IsTextOf text y → (◌≡◌ {A = Result GrownSelect TextRefusal} (Ok x) (Ok y)) ⊎ (◌≡◌ {A = Result GrownSelect TextRefusal} (Ok x) (Err read.Memory))) → IsChecked catalog (statement_of x) x.place r → IsAnswered text catalog r
 answered text catalog x r only k = λ y h. one_tree catalog x y r (only y h) (answer catalog x r k)
+
+-- What is answered of a tree that a text spells is well formed.
+pub formed : (text : List ℕ) (catalog : Catalog) (x : GrownSelect) (r : Result Stmt SqlRefusal) → IsTextOf text x → IsChecked catalog (statement_of x) x.place r → IfOk r (λ s. IsWellFormed catalog s)
+formed text catalog x (Ok s) h k = subst (λ (y : Stmt). IsWellFormed catalog y) (sym k.0) (sound catalog (statement_of x) x.place (text_spelled text x h) (record { names = k.1; types = k.2 }))
+formed text catalog x (Err e) h k = tt

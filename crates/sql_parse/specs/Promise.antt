@@ -1,5 +1,5 @@
 -- What is promised of the reading of a statement over a catalog.
-use Rattle.std.specs.Prelude.{◌≡◌, ◌⊎◌, ℕ, List, [], Option, Some, None, Result, Ok, Err}
+use Rattle.std.specs.Prelude.{◌≡◌, ◌⊎◌, ℕ, List, [], Some, Result, Ok, Err}
 use Rattle.sql_ast.specs.declared.catalog.Catalog.{Catalog}
 use Rattle.sql_ast.specs.declared.select.Stmt.{Stmt}
 use Rattle.sql_grammar.specs.declared.grown.GrownSelect.{GrownSelect}

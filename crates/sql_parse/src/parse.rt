@@ -1,5 +1,6 @@
 //! The text of a statement, read over a catalog.
-ghost use Rattle.std.specs.Prelude.{◌≡◌, ◌<◌, ◌-◌, ◌^◌, length};
+ghost use Rattle.std.specs.Prelude.{◌≡◌, ◌<◌, ◌-◌, ◌^◌, length, IfOk};
+ghost use Rattle.sql_ast.specs.WellFormed.{IsWellFormed};
 ghost use Rattle.sql_parse.specs.Promise.{Holds, IsAnswered, IsChecked, IsTyped, statement_of};
 
 use sql_ast::{Catalog, Stmt};
@@ -71,6 +72,8 @@ pub fn parse_sql(alloc: Global, text: &[u8], catalog: &Catalog) -> Result<Stmt, 
     requires { length text.now < 2 ^ 32 - 1 }
     ensures holds { Holds text.now catalog.now result }
     ensures answered { IsAnswered text.now catalog.now result }
+    // What is answered is well formed over the catalog.
+    ensures formed { IfOk result (λ s. IsWellFormed catalog.now s) }
 {
     match read_text(alloc, text) {
         Ok(tree) => of_tree(alloc, catalog, tree),

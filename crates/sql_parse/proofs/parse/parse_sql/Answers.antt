@@ -1,6 +1,6 @@
 use Rattle.sql_grammar.specs.declared.grown.GrownSelect.{GrownSelect}
 use Rattle.sql_read.specs.Promise.{IsTextOf}
-use Rattle.sql_parse.proofs.Answered.{holds, answered}
+use Rattle.sql_parse.proofs.Answered.{holds, answered, formed}
 use Rattle.sql_parse.proofs.parse.parse_sql.Goals as goal
 
 pub returns-in-Ok-clause-holds : goal.returns-in-Ok-clause-holds
@@ -8,6 +8,9 @@ returns-in-Ok-clause-holds c = holds _ _ _ _ c.in-Ok.ensures.found c.of_tree.ens
 
 pub returns-in-Ok-clause-answered : goal.returns-in-Ok-clause-answered
 returns-in-Ok-clause-answered c = answered _ _ _ _ c.in-Ok.ensures.only c.of_tree.ensures
+
+pub returns-in-Ok-clause-formed : goal.returns-in-Ok-clause-formed
+returns-in-Ok-clause-formed c = formed _ _ _ _ c.in-Ok.ensures.found c.of_tree.ensures
 
 pub returns-in-Err-Q1-clause-holds : goal.returns-in-Err-Q1-clause-holds
 returns-in-Err-Q1-clause-holds c = c.in-Err-Q1.ensures.refused (cc)
