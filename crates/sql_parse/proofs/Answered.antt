@@ -22,7 +22,7 @@ use Rattle.sql_ast.specs.declared.select.Select.{Select}
 use Rattle.sql_parse.proofs.ReadTrees.{text_spelled}
 use Rattle.sql_parse.specs.declared.parse.SqlRefusal.{SqlRefusal}
 use Rattle.sql_parse.specs.declared.parse.SqlRefusal.TheVariants as refusal
-use Rattle.sql_parse.specs.Promise.{statement_of, names_failing, types_failing, IsChecked, Holds, IsAnswered, IsReadBack}
+use Rattle.sql_parse.specs.Promise.{statement_of, names_failing, types_failing, IsChecked, Holds, IsAccepted, IsAnswered, IsReadBack}
 
 pub holds : (text : List ℕ) (catalog : Catalog) (x : GrownSelect) (r : Result Stmt SqlRefusal) → IsTextOf text x → IsChecked catalog (statement_of x) x.place r → Holds text catalog r
 holds text catalog x (Ok s) h k = (x, h, k.0, k.1, k.2)
@@ -56,12 +56,18 @@ pub formed : (text : List ℕ) (catalog : Catalog) (x : GrownSelect) (r : Result
 formed text catalog x (Ok s) h k = subst (λ (y : Stmt). IsWellFormed catalog y) (sym k.0) (sound catalog (statement_of x) x.place (text_spelled text x h) (record { names = k.1; types = k.2 }))
 formed text catalog x (Err e) h k = tt
 
--- The text that is printed of a well-formed statement spells that statement, of which no name and no type fails.
+-- A well-formed statement that a text spells has no fault.
+pub accepted : (text : List ℕ) (catalog : Catalog) (r : Result Stmt SqlRefusal) → IsAnswered text catalog r → IsAccepted text catalog r
+accepted text catalog r answers = λ x h formed.
+    let none : HasNoFault catalog (statement_of x) x.place = complete catalog (statement_of x) x.place formed in
+    answers x h none.names none.types
+
+-- The text that is printed of a well-formed statement spells that statement.
 pub printed : (text : List ℕ) (catalog : Catalog) (r : Result Stmt SqlRefusal) → IsAnswered text catalog r → IsReadBack text catalog r
 printed text catalog r answers = λ s formed fits e.
     let good : StatementHasForm s × AreWritable (tokens_of s) = well_formed_good catalog s formed fits in
     let back : IsReadBackAs (text_of (tokens_of s)) s = form_is_read_back s good.0 formed.low good.1 in
     let x : GrownSelect = back.0.0 in
     let same : statement_of x ≡ s = ap (λ (select : Select). record { select = select }) (back.1 x back.0.1) in
-    let none : HasNoFault catalog (statement_of x) x.place = complete catalog (statement_of x) x.place (subst (λ (y : Stmt). IsWellFormed catalog y) (sym same) formed) in
-    subst (λ (y : Stmt). (r ≡ Ok y) ⊎ (r ≡ Err refusal.Memory)) same (answers x (subst (λ (l : List ℕ). IsTextOf l x) (sym e) back.0.1) none.names none.types)
+    subst (λ (y : Stmt). (r ≡ Ok y) ⊎ (r ≡ Err refusal.Memory)) same
+    (accepted text catalog r answers x (subst (λ (l : List ℕ). IsTextOf l x) (sym e) back.0.1) (subst (λ (y : Stmt). IsWellFormed catalog y) (sym same) formed))

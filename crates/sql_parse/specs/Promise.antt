@@ -60,6 +60,10 @@ abbrev pub IsAnswered : List ℕ → Catalog → Result Stmt SqlRefusal → Type
 IsAnswered text catalog result =
     (x : GrownSelect) → IsTextOf text x → names_failing catalog x ≡ [] → types_failing catalog x ≡ [] → (result ≡ Ok (statement_of x)) ⊎ (result ≡ Err refusal.Memory)
 
+-- Of the tree that a text spells, the answer is the statement where that is well formed over the catalog; memory may run out.
+abbrev pub IsAccepted : List ℕ → Catalog → Result Stmt SqlRefusal → Type 0
+IsAccepted text catalog result = (x : GrownSelect) → IsTextOf text x → IsWellFormed catalog (statement_of x) → (result ≡ Ok (statement_of x)) ⊎ (result ≡ Err refusal.Memory)
+
 -- Of the text that is printed of a well-formed statement, as the machine's types hold it, the answer is that statement; memory may run out.
 abbrev pub IsReadBack : List ℕ → Catalog → Result Stmt SqlRefusal → Type 0
 IsReadBack text catalog result = (s : Stmt) → IsWellFormed catalog s → StatementFits s → text ≡ text_of (tokens_of s) → (result ≡ Ok s) ⊎ (result ≡ Err refusal.Memory)
