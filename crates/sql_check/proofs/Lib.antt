@@ -7,3 +7,10 @@ pub mod ScopeForms
 pub mod TypeForms
 pub mod FaultForms
 pub mod Behind
+pub mod Emptiness
+pub mod Verdicts
+pub mod Scopes
+pub mod Sound
+pub mod Judged
+pub mod Complete
+pub mod WellSpelled

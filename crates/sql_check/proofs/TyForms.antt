@@ -1,5 +1,5 @@
 -- Types at the code's constructors: equal ones, and what the tables say of them.
-use Rattle.std.proofs.Common.{◌≡◌, ◌∙◌, ℕ, zero, suc, ℤ, pos, negsuc, Bool, true, false, ◌&&◌, List, [], ◌∷◌, Option, Some, None, slice_get, refl, ap, sym}
+use Rattle.std.proofs.Common.{◌≡◌, ℕ, zero, suc, ℤ, pos, negsuc, Bool, true, false, ◌&&◌, List, [], ◌∷◌, Option, Some, None, slice_get, refl, ap}
 use Rattle.ev_value.specs.declared.value.ScalarTy.{ScalarTy}
 use Rattle.ev_value.specs.declared.value.ScalarTy.TheVariants as scalar
 use Rattle.sql_ast.specs.declared.expression.Function.{Function}
@@ -9,9 +9,8 @@ use Rattle.sql_ast.specs.declared.ty.SqlTy.{SqlTy}
 use Rattle.sql_ast.specs.declared.ty.SqlTy.TheBlock as block
 use Rattle.sql_ast.specs.declared.ty.SqlTy.TheVariants as ty
 use Rattle.sql_ast.specs.Types.{BOOL}
-use Rattle.sql_check.specs.declared.verdict.Verdict.{Verdict}
-use Rattle.sql_check.specs.declared.verdict.Verdict.TheVariants.{Has, Fails, Unjudged}
-use Rattle.sql_check.specs.Types.{same_scalar, same_type, same_types, all_same, alike, is_of, is_array, has_if, has_some, compared, element_of, with_element, function_verdict, casts, cast_verdict, type_at, part_verdict, arg_verdict}
+use Rattle.sql_check.specs.declared.verdict.Verdict.TheVariants.{Fails}
+use Rattle.sql_check.specs.Types.{same_scalar, same_type, same_types, all_same, alike, is_of, is_array, has_if, has_some, compared, element_of, function_verdict, casts, cast_verdict, type_at, part_verdict, arg_verdict}
 use Rattle.sql_check.specs.TypeLists.{elements_verdict, scalar_verdict, place_of, part_of}
 use denote.Hole.Carrier as carrier
 
@@ -63,7 +62,7 @@ array_row t us = refl
 pub array_of : (t : SqlTy) → is_array (ty.Array t) ≡ true
 array_of t = refl
 
-scalar_itself : (s : ScalarTy) → same_scalar s s ≡ true
+pub scalar_itself : (s : ScalarTy) → same_scalar s s ≡ true
 scalar_itself scalar.Int64 = refl
 scalar_itself scalar.Str = refl
 scalar_itself scalar.Bool = refl
@@ -75,7 +74,7 @@ both_true a b e f = rw (e, f) refl
 mutual
   unfolding same_type
 
-  same_itself : (t : SqlTy) → same_type t t ≡ true
+  pub same_itself : (t : SqlTy) → same_type t t ≡ true
   same_itself (d.Scalar s) = scalar_itself s
   same_itself (d.Row' _ row) = row_itself row
   same_itself (d.Array' _ (d.more_of-SqlTy t d.end_of-SqlTy)) = same_itself t

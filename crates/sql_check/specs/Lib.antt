@@ -5,3 +5,5 @@ pub mod Frames
 pub mod Types
 pub mod SortFrames
 pub mod TypeLists
+pub mod Spelled
+pub mod Laws

@@ -1,5 +1,5 @@
 -- What is said of a form by what is said of its parts; and the same of lists of forms, and of optional ones.
-use Rattle.std.specs.Prelude.{ℕ, zero, suc, ℤ, pos, negsuc, Bool, true, false, slice_get, List, [], ◌∷◌, ◌++◌, drop, length, Option, Some, None, if◌then◌else◌}
+use Rattle.std.specs.Prelude.{ℕ, zero, suc, ℤ, pos, negsuc, Bool, slice_get, List, [], ◌∷◌, ◌++◌, drop, length, Option, Some, None, if◌then◌else◌}
 use denote.Ref.{Bor}
 use Rattle.std.specs.Str.{bytes_eq}
 use Rattle.ev_value.specs.declared.value.ScalarTy.{ScalarTy}
@@ -29,7 +29,7 @@ use Rattle.sql_check.specs.declared.judge.Place.TheVariants as place
 use Rattle.sql_check.specs.declared.verdict.Verdict.{Verdict}
 use Rattle.sql_check.specs.declared.verdict.Verdict.TheVariants.{Has, Fails}
 use Rattle.sql_check.specs.NameLists.{beyond_option}
-use Rattle.sql_check.specs.Types.{Sorts, over, has_if, same_scalar, known, wanted, failing, is_of, is_scalar, is_array, type_in, with_first, array_verdict, row_verdict, all_types, sort_under, column_type, unary_verdict, binary_verdict, cast_verdict, part_verdict, case_verdict, function_verdict, verdict, core_sorts, item_sorts, types_in, types_in_item, types_in_key}
+use Rattle.sql_check.specs.Types.{Sorts, over, has_if, same_scalar, wanted, failing, is_of, is_scalar, is_array, type_in, with_first, sort_under, column_type, unary_verdict, binary_verdict, cast_verdict, part_verdict, case_verdict, function_verdict, verdict, core_sorts, item_sorts, types_in, types_in_item, types_in_key}
 use Rattle.sql_check.specs.Walk.{start, inner, rest}
 
 -- ---- forms

@@ -1,5 +1,5 @@
 -- The types that the expressions of a statement have, and those that fail by their types, each with its byte.
-use Rattle.std.specs.Prelude.{ℕ, zero, suc, ℤ, pos, Bool, true, false, ◌&&◌, ◌||◌, List, [], ◌∷◌, ◌++◌, codes, map, length, Option, Some, None, slice_get, if◌then◌else◌}
+use Rattle.std.specs.Prelude.{ℕ, zero, suc, ℤ, pos, Bool, true, false, ◌&&◌, ◌||◌, List, [], ◌∷◌, ◌++◌, codes, map, Option, Some, None, if◌then◌else◌}
 use Rattle.std.specs.Str.{bytes_eq}
 use Rattle.ev_value.specs.declared.value.ScalarTy.{ScalarTy}
 use Rattle.ev_value.specs.declared.value.ScalarTy.TheVariants as scalar

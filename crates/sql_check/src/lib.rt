@@ -5,6 +5,7 @@ mod check;
 mod columns;
 mod judge;
 mod kind;
+mod laws;
 mod names;
 mod scope;
 mod sort;
@@ -15,3 +16,4 @@ mod verdict;
 mod walk;
 
 pub use check::{failing_name, failing_type};
+pub use laws::checks_decide;

@@ -1,1 +1,4 @@
 pub mod Answered
+pub mod Built
+pub mod Keeping
+pub mod ReadTrees

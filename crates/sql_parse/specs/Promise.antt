@@ -1,10 +1,14 @@
 -- What is promised of the reading of a statement over a catalog.
-use Rattle.std.specs.Prelude.{◌≡◌, ◌⊎◌, ℕ, List, [], Option, Some, None, Result, Ok, Err}
+use Rattle.std.specs.Prelude.{◌≡◌, ◌⊎◌, ℕ, List, [], Some, Result, Ok, Err}
 use Rattle.sql_ast.specs.declared.catalog.Catalog.{Catalog}
 use Rattle.sql_ast.specs.declared.select.Stmt.{Stmt}
+use Rattle.sql_ast.specs.WellFormed.{IsWellFormed}
 use Rattle.sql_grammar.specs.declared.grown.GrownSelect.{GrownSelect}
 use Rattle.sql_grammar.specs.declared.grown.Places.{Places}
+use Rattle.sql_print.specs.Layout.{text_of}
+use Rattle.sql_print.specs.Lists.{tokens_of}
 use Rattle.sql_read.specs.Promise.{IsTextOf}
+use Rattle.sql_spell.specs.Machine.{StatementFits}
 use Rattle.sql_check.specs.Walk.{IsLeast}
 use Rattle.sql_check.specs.Names.{name_faults}
 use Rattle.sql_check.specs.Types.{type_faults}
@@ -55,3 +59,11 @@ Holds text catalog (Err refusal.Memory) = Unit {0}
 abbrev pub IsAnswered : List ℕ → Catalog → Result Stmt SqlRefusal → Type 0
 IsAnswered text catalog result =
     (x : GrownSelect) → IsTextOf text x → names_failing catalog x ≡ [] → types_failing catalog x ≡ [] → (result ≡ Ok (statement_of x)) ⊎ (result ≡ Err refusal.Memory)
+
+-- Of the tree that a text spells, the answer is the statement where that is well formed over the catalog; memory may run out.
+abbrev pub IsAccepted : List ℕ → Catalog → Result Stmt SqlRefusal → Type 0
+IsAccepted text catalog result = (x : GrownSelect) → IsTextOf text x → IsWellFormed catalog (statement_of x) → (result ≡ Ok (statement_of x)) ⊎ (result ≡ Err refusal.Memory)
+
+-- Of the text that is printed of a well-formed statement, as the machine's types hold it, the answer is that statement; memory may run out.
+abbrev pub IsReadBack : List ℕ → Catalog → Result Stmt SqlRefusal → Type 0
+IsReadBack text catalog result = (s : Stmt) → IsWellFormed catalog s → StatementFits s → text ≡ text_of (tokens_of s) → (result ≡ Ok s) ⊎ (result ≡ Err refusal.Memory)

@@ -1,6 +1,7 @@
 //! The text of a statement, read over a catalog.
-ghost use Rattle.std.specs.Prelude.{◌≡◌, ◌<◌, ◌-◌, ◌^◌, length};
-ghost use Rattle.sql_parse.specs.Promise.{Holds, IsAnswered, IsChecked, IsTyped, statement_of};
+ghost use Rattle.std.specs.Prelude.{◌≡◌, ◌<◌, ◌-◌, ◌^◌, length, IfOk};
+ghost use Rattle.sql_ast.specs.WellFormed.{IsWellFormed};
+ghost use Rattle.sql_parse.specs.Promise.{Holds, IsAccepted, IsAnswered, IsChecked, IsReadBack, IsTyped, statement_of};
 
 use sql_ast::{Catalog, Stmt};
 use sql_check::{failing_name, failing_type};
@@ -71,6 +72,11 @@ pub fn parse_sql(alloc: Global, text: &[u8], catalog: &Catalog) -> Result<Stmt, 
     requires { length text.now < 2 ^ 32 - 1 }
     ensures holds { Holds text.now catalog.now result }
     ensures answered { IsAnswered text.now catalog.now result }
+    // What is answered is well formed over the catalog, and a well-formed statement that the text spells is answered.
+    ensures formed { IfOk result (λ s. IsWellFormed catalog.now s) }
+    ensures accepted { IsAccepted text.now catalog.now result }
+    // A well-formed statement is read back from its printed text.
+    ensures printed { IsReadBack text.now catalog.now result }
 {
     match read_text(alloc, text) {
         Ok(tree) => of_tree(alloc, catalog, tree),
