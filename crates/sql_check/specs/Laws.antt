@@ -16,6 +16,9 @@ pub record HasNoFault (catalog : Catalog) (s : Stmt) (place : Places) : Type 0 w
 -- The checks of names and types decide whether a statement is well formed, if it is one as reading gives it; and each
 -- well-formed statement is one.
 pub record ChecksDecide : Type 0 where
+  -- where nothing fails the statement is well formed
   pub sound : (catalog : Catalog) (s : Stmt) (place : Places) → StatementIsSpelled s → HasNoFault catalog s place → IsWellFormed catalog s
+  -- of a well-formed statement nothing fails
   pub complete : (catalog : Catalog) (s : Stmt) (place : Places) → IsWellFormed catalog s → HasNoFault catalog s place
+  -- and it is one as reading gives it
   pub spelled : (catalog : Catalog) (s : Stmt) → IsWellFormed catalog s → StatementIsSpelled s

@@ -25,7 +25,6 @@ pub enum Step {
     Part(i64),
     /// Condition, value and other.
     Case,
-    Cast(ScalarTy),
     Unary(UnaryOp),
     Binary(BinaryOp),
     Call(Function),
@@ -80,7 +79,7 @@ struct Bench {
     selects: Vec<Select>,
 }
 
-/// The statement that the steps make; the innermost select ends by itself.
+/// The statement that the steps make; the outermost select ends by itself.
 pub fn statement(alloc: Global, steps: &[Step]) -> Result<Option<Stmt>, AllocError> {
     let mut bench = Bench {
         alloc,
@@ -88,32 +87,64 @@ pub fn statement(alloc: Global, steps: &[Step]) -> Result<Option<Stmt>, AllocErr
         drafts: Vec::new(alloc),
         selects: Vec::new(alloc),
     };
-    for step in steps {
-        bench.take(*step)?;
+    match bench.take_all(steps) {
+        Ok(()) => Ok(bench.selects.pop().map(|select| Stmt { select })),
+        Err(error) => Err(error),
     }
-    bench.end()?;
-    Ok(bench.selects.pop().map(|select| Stmt { select }))
+}
+
+// Two and three values in memory of their own: generic code, which is checked once and for any type.
+fn box_two<T: Drop>(alloc: Global, a: T, b: T) -> Result<(Boxed<T>, Boxed<T>), AllocError> {
+    let a = Boxed::new(alloc, a)?;
+    let b = Boxed::new(alloc, b)?;
+    Ok((a, b))
+}
+
+fn list_two<T: Drop>(alloc: Global, a: T, b: T) -> Result<List<T>, AllocError> {
+    let mut all = List::new(alloc);
+    all.push(a)?;
+    all.push(b)?;
+    Ok(all)
 }
 
 impl Bench {
+    fn take_all(&mut self, steps: &[Step]) -> Result<(), AllocError> {
+        for step in steps {
+            self.take(*step)?;
+        }
+        self.end()
+    }
+
     fn take(&mut self, step: Step) -> Result<(), AllocError> {
         match step {
-            Step::Int(_) | Step::Text(_) | Step::Truth(_) | Step::Null(_) => self.leaf(step),
-            Step::Column(_, _) | Step::Arg(_) | Step::Global(_) => self.name(step),
+            Step::Int(number) => self.push(SqlExpr::Int(number)),
+            Step::Truth(truth) => self.push(SqlExpr::Bool(truth)),
+            Step::Null(ty) => self.push(SqlExpr::Null(SqlTy::Scalar(ty))),
+            Step::Text(text) => self.text(text),
+            Step::Column(alias, name) => self.column(alias, name),
+            Step::Arg(name) => self.argument(name),
+            Step::Global(name) => self.global(name),
             Step::Array => self.array(),
-            Step::Pair | Step::Case | Step::Binary(_) => self.wide(step),
-            Step::Part(_) | Step::Cast(_) | Step::Unary(_) | Step::Call(_) => self.over(step),
-            Step::Begin => {
-                let draft = begun(self.alloc, List::new(self.alloc));
-                Ok(self.drafts.push(draft)?)
-            }
-            Step::Table(_, _) | Step::Lateral(_) | Step::LeftLateral(_) | Step::Unnest(_) => {
-                self.item(step)
-            }
+            Step::Pair => self.pair(),
+            Step::Case => self.case(),
+            Step::Binary(operator) => self.binary(operator),
+            Step::Part(number) => self.part(number),
+            Step::Unary(operator) => self.unary(operator),
+            Step::Call(function) => self.call(function),
+            Step::Begin => self.begin(),
+            Step::Named(name) => self.named(name),
+            Step::Table(name, alias) => self.table(name, alias),
+            Step::Lateral(alias) => self.lateral(alias),
+            Step::LeftLateral(alias) => self.left_lateral(alias),
+            Step::Unnest(alias) => self.unnest(alias),
+            Step::Where => self.condition(),
+            Step::Offset => self.offset(),
+            Step::Limit => self.limit(),
+            Step::Ascending(nulls) => self.ascending(nulls),
+            Step::Descending(nulls) => self.descending(nulls),
             Step::Core => self.core(false),
             Step::Distinct => self.core(true),
             Step::End => self.end(),
-            _ => self.clause(step),
         }
     }
 
@@ -121,31 +152,25 @@ impl Bench {
         Ok(self.exprs.push(expr)?)
     }
 
-    fn leaf(&mut self, step: Step) -> Result<(), AllocError> {
-        let expr = match step {
-            Step::Int(number) => SqlExpr::Int(number),
-            Step::Text(text) => SqlExpr::Text(Text::from_str(self.alloc, text)?),
-            Step::Null(ty) => SqlExpr::Null(SqlTy::Scalar(ty)),
-            Step::Truth(truth) => SqlExpr::Bool(truth),
-            _ => SqlExpr::Bool(false),
-        };
-        self.push(expr)
+    fn text(&mut self, text: &str) -> Result<(), AllocError> {
+        let text = Text::from_str(self.alloc, text)?;
+        self.push(SqlExpr::Text(text))
     }
 
-    fn name(&mut self, step: Step) -> Result<(), AllocError> {
-        let expr = match step {
-            Step::Column(alias, name) => {
-                let alias = Text::from_str(self.alloc, alias)?;
-                SqlExpr::Column(alias, Text::from_str(self.alloc, name)?)
-            }
-            Step::Arg(name) => SqlExpr::Arg(
-                Text::from_str(self.alloc, name)?,
-                SqlTy::Scalar(ScalarTy::Int64),
-            ),
-            Step::Global(name) => SqlExpr::Global(Text::from_str(self.alloc, name)?),
-            _ => SqlExpr::Bool(false),
-        };
-        self.push(expr)
+    fn column(&mut self, alias: &str, name: &str) -> Result<(), AllocError> {
+        let alias = Text::from_str(self.alloc, alias)?;
+        let name = Text::from_str(self.alloc, name)?;
+        self.push(SqlExpr::Column(alias, name))
+    }
+
+    fn argument(&mut self, name: &str) -> Result<(), AllocError> {
+        let name = Text::from_str(self.alloc, name)?;
+        self.push(SqlExpr::Arg(name, SqlTy::Scalar(ScalarTy::Int64)))
+    }
+
+    fn global(&mut self, name: &str) -> Result<(), AllocError> {
+        let name = Text::from_str(self.alloc, name)?;
+        self.push(SqlExpr::Global(name))
     }
 
     fn array(&mut self) -> Result<(), AllocError> {
@@ -155,122 +180,172 @@ impl Bench {
         }
     }
 
-    /// An expression of the one on the stack.
-    fn over(&mut self, step: Step) -> Result<(), AllocError> {
-        let Some(operand) = self.exprs.pop() else {
-            return Ok(());
-        };
-        let operand = Boxed::new(self.alloc, operand)?;
-        self.push(match step {
-            Step::Part(number) => SqlExpr::Part(operand, number),
-            Step::Cast(ty) => SqlExpr::Cast(operand, SqlTy::Scalar(ty)),
-            Step::Unary(operator) => SqlExpr::Unary(operator, operand),
-            Step::Call(function) => SqlExpr::Call(function, operand),
-            _ => SqlExpr::Unary(UnaryOp::Not, operand),
-        })
-    }
-
-    /// An expression of two or three on the stack.
-    fn wide(&mut self, step: Step) -> Result<(), AllocError> {
-        let (Some(last), Some(before)) = (self.exprs.pop(), self.exprs.pop()) else {
-            return Ok(());
-        };
-        match step {
-            Step::Pair => self.pair(before, last),
-            Step::Binary(operator) => self.binary(operator, before, last),
-            _ => self.case(before, last),
+    /// The expression on the stack, in memory of its own.
+    fn boxed(&mut self) -> Result<Option<Boxed<SqlExpr>>, AllocError> {
+        match self.exprs.pop() {
+            Some(expr) => Ok(Some(Boxed::new(self.alloc, expr)?)),
+            None => Ok(None),
         }
     }
 
-    fn pair(&mut self, first: SqlExpr, second: SqlExpr) -> Result<(), AllocError> {
-        let mut parts = List::new(self.alloc);
-        parts.push(first)?;
-        parts.push(second)?;
-        self.push(SqlExpr::Row(parts))
+    fn part(&mut self, number: i64) -> Result<(), AllocError> {
+        match self.boxed()? {
+            Some(operand) => self.push(SqlExpr::Part(operand, number)),
+            None => Ok(()),
+        }
     }
 
-    fn binary(
-        &mut self,
-        operator: BinaryOp,
-        left: SqlExpr,
-        right: SqlExpr,
-    ) -> Result<(), AllocError> {
-        let left = Boxed::new(self.alloc, left)?;
-        let right = Boxed::new(self.alloc, right)?;
-        self.push(SqlExpr::Binary(Binary {
-            operator,
-            left,
-            right,
-        }))
+    fn unary(&mut self, operator: UnaryOp) -> Result<(), AllocError> {
+        match self.boxed()? {
+            Some(operand) => self.push(SqlExpr::Unary(operator, operand)),
+            None => Ok(()),
+        }
     }
 
-    fn case(&mut self, value: SqlExpr, other: SqlExpr) -> Result<(), AllocError> {
-        let Some(condition) = self.exprs.pop() else {
-            return Ok(());
-        };
-        let condition = Boxed::new(self.alloc, condition)?;
-        let value = Boxed::new(self.alloc, value)?;
-        let other = Boxed::new(self.alloc, other)?;
-        self.push(SqlExpr::Case(Case {
-            condition,
-            value,
-            other,
-        }))
+    fn call(&mut self, function: Function) -> Result<(), AllocError> {
+        match self.boxed()? {
+            Some(operand) => self.push(SqlExpr::Call(function, operand)),
+            None => Ok(()),
+        }
     }
 
-    fn item(&mut self, step: Step) -> Result<(), AllocError> {
-        let made = match step {
-            Step::Table(name, alias) => {
-                let name = Text::from_str(self.alloc, name)?;
-                Some(FromItem::Table(name, Text::from_str(self.alloc, alias)?))
+    fn pair(&mut self) -> Result<(), AllocError> {
+        match (self.exprs.pop(), self.exprs.pop()) {
+            (Some(second), Some(first)) => {
+                let parts = list_two(self.alloc, first, second)?;
+                self.push(SqlExpr::Row(parts))
             }
-            Step::Lateral(alias) => {
-                let alias = Text::from_str(self.alloc, alias)?;
-                self.selects
-                    .pop()
-                    .map(|select| FromItem::Lateral(select, alias))
-            }
-            Step::LeftLateral(alias) => {
-                let alias = Text::from_str(self.alloc, alias)?;
-                self.selects
-                    .pop()
-                    .map(|select| FromItem::LeftLateral(select, alias))
-            }
-            Step::Unnest(alias) => {
-                let alias = Text::from_str(self.alloc, alias)?;
-                self.exprs.pop().map(|array| FromItem::Unnest(array, alias))
-            }
-            _ => None,
-        };
-        match (made, self.drafts.last_mut()) {
-            (Some(item), Some(draft)) => draft.from.push(item),
             _ => Ok(()),
         }
     }
 
-    fn clause(&mut self, step: Step) -> Result<(), AllocError> {
-        let (Some(expr), Some(draft)) = (self.exprs.pop(), self.drafts.last_mut()) else {
-            return Ok(());
-        };
-        match step {
-            Step::Named(name) => {
-                let name = Text::from_str(self.alloc, name)?;
-                draft.columns.push(Column { value: expr, name })?;
+    fn binary(&mut self, operator: BinaryOp) -> Result<(), AllocError> {
+        match (self.exprs.pop(), self.exprs.pop()) {
+            (Some(right), Some(left)) => {
+                let (left, right) = box_two(self.alloc, left, right)?;
+                self.push(SqlExpr::Binary(Binary {
+                    operator,
+                    left,
+                    right,
+                }))
             }
-            Step::Where => draft.condition = Some(Boxed::new(self.alloc, expr)?),
-            Step::Offset => draft.offset = Some(Boxed::new(self.alloc, expr)?),
-            Step::Limit => draft.limit = Some(Boxed::new(self.alloc, expr)?),
-            Step::Ascending(nulls) => draft.keys.push(Key::Ascending(expr, nulls))?,
-            Step::Descending(nulls) => draft.keys.push(Key::Descending(expr, nulls))?,
-            _ => {}
+            _ => Ok(()),
+        }
+    }
+
+    fn case(&mut self) -> Result<(), AllocError> {
+        match (self.exprs.pop(), self.exprs.pop()) {
+            (Some(other), Some(value)) => {
+                let (value, other) = box_two(self.alloc, value, other)?;
+                match self.boxed() {
+                    Ok(Some(condition)) => self.push(SqlExpr::Case(Case {
+                        condition,
+                        value,
+                        other,
+                    })),
+                    Ok(None) => Ok(()),
+                    Err(error) => Err(error),
+                }
+            }
+            _ => Ok(()),
+        }
+    }
+
+    fn begin(&mut self) -> Result<(), AllocError> {
+        Ok(self.drafts.push(begun(self.alloc, List::new(self.alloc)))?)
+    }
+
+    fn add_item(&mut self, item: FromItem) -> Result<(), AllocError> {
+        match self.drafts.last_mut() {
+            Some(draft) => draft.from.push(item),
+            None => Ok(()),
+        }
+    }
+
+    fn table(&mut self, name: &str, alias: &str) -> Result<(), AllocError> {
+        let name = Text::from_str(self.alloc, name)?;
+        let alias = Text::from_str(self.alloc, alias)?;
+        self.add_item(FromItem::Table(name, alias))
+    }
+
+    fn lateral(&mut self, alias: &str) -> Result<(), AllocError> {
+        let alias = Text::from_str(self.alloc, alias)?;
+        match self.selects.pop() {
+            Some(select) => self.add_item(FromItem::Lateral(select, alias)),
+            None => Ok(()),
+        }
+    }
+
+    fn left_lateral(&mut self, alias: &str) -> Result<(), AllocError> {
+        let alias = Text::from_str(self.alloc, alias)?;
+        match self.selects.pop() {
+            Some(select) => self.add_item(FromItem::LeftLateral(select, alias)),
+            None => Ok(()),
+        }
+    }
+
+    fn unnest(&mut self, alias: &str) -> Result<(), AllocError> {
+        let alias = Text::from_str(self.alloc, alias)?;
+        match self.exprs.pop() {
+            Some(array) => self.add_item(FromItem::Unnest(array, alias)),
+            None => Ok(()),
+        }
+    }
+
+    fn named(&mut self, name: &str) -> Result<(), AllocError> {
+        let name = Text::from_str(self.alloc, name)?;
+        match (self.exprs.pop(), self.drafts.last_mut()) {
+            (Some(value), Some(draft)) => draft.columns.push(Column { value, name }),
+            _ => Ok(()),
+        }
+    }
+
+    fn condition(&mut self) -> Result<(), AllocError> {
+        let condition = self.boxed()?;
+        if let Some(draft) = self.drafts.last_mut() {
+            draft.condition = condition;
         }
         Ok(())
     }
 
+    fn offset(&mut self) -> Result<(), AllocError> {
+        let offset = self.boxed()?;
+        if let Some(draft) = self.drafts.last_mut() {
+            draft.offset = offset;
+        }
+        Ok(())
+    }
+
+    fn limit(&mut self) -> Result<(), AllocError> {
+        let limit = self.boxed()?;
+        if let Some(draft) = self.drafts.last_mut() {
+            draft.limit = limit;
+        }
+        Ok(())
+    }
+
+    fn ascending(&mut self, nulls: Absent) -> Result<(), AllocError> {
+        match (self.exprs.pop(), self.drafts.last_mut()) {
+            (Some(value), Some(draft)) => draft.keys.push(Key::Ascending(value, nulls)),
+            _ => Ok(()),
+        }
+    }
+
+    fn descending(&mut self, nulls: Absent) -> Result<(), AllocError> {
+        match (self.exprs.pop(), self.drafts.last_mut()) {
+            (Some(value), Some(draft)) => draft.keys.push(Key::Descending(value, nulls)),
+            _ => Ok(()),
+        }
+    }
+
     fn core(&mut self, is_distinct: bool) -> Result<(), AllocError> {
-        let Some(ready) = self.drafts.pop() else {
-            return Ok(());
-        };
+        match self.drafts.pop() {
+            Some(ready) => self.add_core(is_distinct, ready),
+            None => Ok(()),
+        }
+    }
+
+    fn add_core(&mut self, is_distinct: bool, ready: Draft) -> Result<(), AllocError> {
         let Draft {
             mut cores,
             columns,
@@ -297,19 +372,21 @@ impl Bench {
 
     fn end(&mut self) -> Result<(), AllocError> {
         match self.drafts.pop() {
-            Some(ready) => {
-                let Draft {
-                    cores,
-                    columns: _,
-                    from: _,
-                    keys: _,
-                    condition: _,
-                    offset: _,
-                    limit: _,
-                } = ready;
-                Ok(self.selects.push(Select { cores })?)
-            }
+            Some(ready) => self.add_select(ready),
             None => Ok(()),
         }
+    }
+
+    fn add_select(&mut self, ready: Draft) -> Result<(), AllocError> {
+        let Draft {
+            cores,
+            columns: _,
+            from: _,
+            keys: _,
+            condition: _,
+            offset: _,
+            limit: _,
+        } = ready;
+        Ok(self.selects.push(Select { cores })?)
     }
 }

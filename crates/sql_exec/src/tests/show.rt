@@ -1,10 +1,12 @@
 //! Rows as text: cells with a comma between them, rows with a semicolon behind each.
 
+use crate::tests::Sample;
 use crate::tests::bench::{Step, statement};
 use crate::tests::world::{arguments, tables};
 use crate::{ExecError, exec};
-use ev_value::Val;
-use sql_table::{Cell, Row};
+use ev_value::{Args, Val};
+use sql_ast::Stmt;
+use sql_table::{Cell, Row, Tables};
 use std::alloc::{AllocError, Global};
 
 fn add_value(alloc: Global, value: &Val, text: &mut String) -> Result<(), AllocError> {
@@ -55,19 +57,55 @@ fn shown(alloc: Global, rows: &[Row]) -> Result<String, AllocError> {
     Ok(text)
 }
 
-/// What the statement of the steps answers, as text.
-pub fn answer(alloc: Global, steps: &[Step]) -> Result<String, AllocError> {
-    let Some(made) = statement(alloc, steps)? else {
-        return String::from_str(alloc, "no statement");
-    };
-    let tables = tables(alloc)?;
-    let args = arguments(alloc)?;
-    match exec(alloc, &made, &tables, &args) {
+fn run(
+    alloc: Global,
+    statement: &Stmt,
+    tables: &Tables,
+    args: &Args,
+) -> Result<String, AllocError> {
+    match exec(alloc, statement, tables, args) {
         Ok(rows) => shown(alloc, rows.as_slice()),
         Err(ExecError::Fault(fault)) => {
             let number = fault.number();
             format!(in alloc; "fault {number}")
         }
         Err(ExecError::Memory) => Err(AllocError),
+    }
+}
+
+/// What the statement of the steps answers, as text.
+fn answer(
+    alloc: Global,
+    tables: &Tables,
+    args: &Args,
+    steps: &[Step],
+) -> Result<String, AllocError> {
+    match statement(alloc, steps)? {
+        Some(made) => run(alloc, &made, tables, args),
+        None => String::from_str(alloc, "no statement"),
+    }
+}
+
+fn first_wrong_over(
+    alloc: Global,
+    tables: &Tables,
+    args: &Args,
+    samples: &[Sample],
+) -> Result<Option<usize>, AllocError> {
+    for (i, sample) in samples.iter().enumerate() {
+        let told = answer(alloc, tables, args, sample.steps)?;
+        if told.as_str() != sample.answer {
+            return Ok(Some(i));
+        }
+    }
+    Ok(None)
+}
+
+/// The number of the first sample that answers otherwise.
+pub fn first_wrong(alloc: Global, samples: &[Sample]) -> Result<Option<usize>, AllocError> {
+    let args = arguments(alloc)?;
+    match tables(alloc) {
+        Ok(tables) => first_wrong_over(alloc, &tables, &args, samples),
+        Err(error) => Err(error),
     }
 }

@@ -2,7 +2,7 @@
 
 use ev_value::{Args, Argument, List, ScalarTy, Text, Val};
 use sql_ast::{Catalog, SqlTy, TableShape, Typed};
-use sql_table::{Cell, Rows, Shared, Tables};
+use sql_table::{Cell, Row, Rows, Shared, Tables};
 use std::alloc::{AllocError, Global};
 
 /// A cell as it is written below.
@@ -17,23 +17,39 @@ enum Datum {
 
 use Datum::{I, N, T, U};
 
-static USERS: [Datum; 9] = [
-    U(1),
-    I(30),
-    T("Ann"),
-    U(2),
-    N,
-    T("Bob"),
-    U(3),
-    I(7),
-    T("Cid"),
+/// A table: its name, the names of its columns, and its rows.
+type Written = (
+    &'static str,
+    &'static [&'static str],
+    &'static [&'static [Datum]],
+);
+
+const TABLES: [Written; 4] = [
+    (
+        "Post",
+        &["id", "author", "title"],
+        &[&[U(4), U(1), T("A")], &[U(5), U(1), T("B")]],
+    ),
+    (
+        "Post.tags",
+        &["source", "target"],
+        &[&[U(4), T("x")], &[U(4), T("y")]],
+    ),
+    (
+        "User",
+        &["id", "age", "name"],
+        &[
+            &[U(1), I(30), T("Ann")],
+            &[U(2), N, T("Bob")],
+            &[U(3), I(7), T("Cid")],
+        ],
+    ),
+    (
+        "User.friends",
+        &["source", "target", "@strength"],
+        &[&[U(1), U(2), I(5)], &[U(2), U(1), I(1)], &[U(2), U(3), N]],
+    ),
 ];
-
-static FRIENDS: [Datum; 9] = [U(1), U(2), I(5), U(2), U(1), I(1), U(2), U(3), N];
-
-static POSTS: [Datum; 6] = [U(4), U(1), T("A"), U(5), U(1), T("B")];
-
-static TAGS: [Datum; 4] = [U(4), T("x"), U(4), T("y")];
 
 fn cell(alloc: Global, datum: Datum) -> Result<Cell, AllocError> {
     match datum {
@@ -44,65 +60,70 @@ fn cell(alloc: Global, datum: Datum) -> Result<Cell, AllocError> {
     }
 }
 
-/// Rows of so many cells each.
-fn rows(alloc: Global, width: usize, data: &[Datum]) -> Result<Rows, AllocError> {
-    let mut rows = List::new(alloc);
+fn row(alloc: Global, data: &[Datum]) -> Result<Row, AllocError> {
     let mut cells = List::new(alloc);
     for datum in data {
         cells.push(cell(alloc, *datum)?)?;
-        if cells.len() == width {
-            rows.push(Shared::new(alloc, cells)?)?;
-            cells = List::new(alloc);
-        }
     }
-    drop(cells);
+    Shared::new(alloc, cells)
+}
+
+fn rows(alloc: Global, data: &[&[Datum]]) -> Result<Rows, AllocError> {
+    let mut rows = List::new(alloc);
+    for cells in data {
+        rows.push(row(alloc, cells)?)?;
+    }
     Ok(rows)
 }
 
-fn shape(alloc: Global, name: &str, columns: &[&str]) -> Result<TableShape, AllocError> {
+fn typed(alloc: Global, columns: &[&str]) -> Result<List<Typed>, AllocError> {
     let mut typed = List::new(alloc);
     for column in columns {
+        let name = Text::from_str(alloc, column)?;
         typed.push(Typed {
-            name: Text::from_str(alloc, column)?,
+            name,
             ty: SqlTy::Scalar(ScalarTy::Str),
         })?;
     }
-    let name = Text::from_str(alloc, name)?;
-    Ok(TableShape {
-        name,
-        columns: typed,
-    })
+    Ok(typed)
 }
 
 fn catalog(alloc: Global) -> Result<Catalog, AllocError> {
-    let mut shapes = List::new(alloc);
-    shapes.push(shape(alloc, "Post", &["id", "author", "title"])?)?;
-    shapes.push(shape(alloc, "Post.tags", &["source", "target"])?)?;
-    shapes.push(shape(alloc, "User", &["id", "age", "name"])?)?;
-    shapes.push(shape(alloc, "User.friends", &["source", "target", "@strength"])?)?;
-    let globals = List::new(alloc);
+    let mut tables = List::new(alloc);
+    for (name, columns, _) in &TABLES {
+        let name = Text::from_str(alloc, name)?;
+        let columns = typed(alloc, columns)?;
+        tables.push(TableShape { name, columns })?;
+    }
     Ok(Catalog {
-        tables: shapes,
-        globals,
+        tables,
+        globals: List::new(alloc),
     })
 }
 
-pub fn tables(alloc: Global) -> Result<Tables, AllocError> {
+fn all_rows(alloc: Global) -> Result<List<Rows>, AllocError> {
     let mut all = List::new(alloc);
-    all.push(rows(alloc, 3, &POSTS)?)?;
-    all.push(rows(alloc, 2, &TAGS)?)?;
-    all.push(rows(alloc, 3, &USERS)?)?;
-    all.push(rows(alloc, 3, &FRIENDS)?)?;
-    Ok(Tables::new(catalog(alloc)?, all))
+    for (_, _, data) in &TABLES {
+        all.push(rows(alloc, data)?)?;
+    }
+    Ok(all)
+}
+
+pub fn tables(alloc: Global) -> Result<Tables, AllocError> {
+    let rows = all_rows(alloc)?;
+    Ok(Tables::new(catalog(alloc)?, rows))
 }
 
 /// One parameter: `x` is 10.
 pub fn arguments(alloc: Global) -> Result<Args, AllocError> {
     let mut params = List::new(alloc);
+    let name = Text::from_str(alloc, "x")?;
     params.push(Argument {
-        name: Text::from_str(alloc, "x")?,
+        name,
         value: Val::Int(10),
     })?;
-    let globals = List::new(alloc);
-    Ok(Args { globals, params })
+    Ok(Args {
+        globals: List::new(alloc),
+        params,
+    })
 }
