@@ -2,5 +2,7 @@
 #![tactic(auto)]
 
 mod data;
+mod laws;
 
 pub use data::load;
+pub use laws::loaded_objects_fit;

@@ -1,12 +1,12 @@
 -- What the items of a query make due.
-use Rattle.std.proofs.Common.{◌≡◌, ℕ, List, [], ◌∷◌, Result, Ok, Err, ◌⊎◌, inl, inr, Bool, true, false, refl, sym, ap, ◌∙◌, subst, rules}
+use Rattle.std.proofs.Common.{◌≡◌, ℕ, List, [], ◌∷◌, Result, Ok, Err, ◌⊎◌, inl, inr, true, false, refl, rules}
 use Rattle.ev_io.specs.Shelf.{ShelfView}
 use Rattle.ev_value.specs.Item.{has_fault, faults, values}
 use Rattle.ev_value.specs.declared.item.Fault.{Fault}
 use Rattle.ev_value.specs.declared.item.Item.{Item}
 use Rattle.ev_value.specs.declared.item.Item.TheVariants as item
 use Rattle.ev_value.specs.declared.value.Val.{Val}
-use Rattle.edge_run.specs.Plan.{Goes, Fail, Answer, Plan}
+use Rattle.edge_run.specs.Plan.{Goes}
 use Rattle.edge_run.specs.Modes.{answered, answer_text}
 use Rattle.edge_run.specs.declared.outcome.Outcome.{Outcome}
 use Rattle.edge_run.specs.declared.outcome.Outcome.TheVariants as outcome

@@ -1,21 +1,20 @@
 -- The clauses of the top call, from one run.
-use Rattle.std.proofs.Common.{◌≡◌, ℕ, List, Option, Some, Result, Ok, Err, ◌⊎◌, inl, inr, Contains, refl, sym, ap, ◌∙◌, subst, rules}
+use Rattle.std.proofs.Common.{◌≡◌, ℕ, List, Option, Result, Ok, Err, ◌⊎◌, inl, inr, Contains, refl, sym, ◌∙◌, subst, rules}
 use Rattle.ev_io.specs.Count.{Rose}
 use Rattle.ev_io.specs.Shelf.{ShelfView}
-use Rattle.ev_io.specs.Sink.{SinkView, PutTakes, PutFails}
+use Rattle.ev_io.specs.Sink.{SinkView}
 use Rattle.ev_value.specs.declared.item.Fault.{Fault}
 use Rattle.edge_run.specs.Deliver.{Delivers, Tells, unwritten_of}
-use Rattle.edge_run.specs.Outcome.{line_of}
 use Rattle.edge_run.specs.Plan.{Plan, Goes, Verdict, Answers, Refuses, Faults, Missing, MayRefuse, MayRead, Comes}
-use Rattle.edge_run.specs.Refusal.{Refusal, Usage, TooLong, Schema, Data, Query, told}
-use Rattle.edge_run.specs.Run.{Runs, Over, IsRefusalDue, IsDue, IsAnswerDue, IsTold, IsCaused, IsComplete, IsAlong}
+use Rattle.edge_run.specs.Refusal.{Refusal, Usage, TooLong, Schema, Data, Query, Args, told}
+use Rattle.edge_run.specs.Run.{Runs, Over, IsDue, IsCaused, IsComplete, IsAlong}
 use Rattle.edge_run.specs.Ends.{ComesTo, Serves}
 use Rattle.edge_run.specs.declared.outcome.Chan.TheVariants as chan
 use Rattle.edge_run.specs.declared.outcome.Doc.{Doc}
 use Rattle.edge_run.specs.declared.outcome.Outcome.{Outcome}
 use Rattle.edge_run.specs.declared.outcome.Outcome.TheVariants as outcome
 use Rattle.edge_run.proofs.Told.{told_same, told_not_memory, told_not_read, told_not_fault}
-use Rattle.edge_run.proofs.PlanLaws.{judged, Judged, possible, Possible, Follows, ReadFault, along}
+use Rattle.edge_run.proofs.PlanLaws.{judged, Judged, possible, Possible, Follows, along}
 
 ok_not_err : (a : List ℕ) (o : Outcome) → ◌≡◌ {A = Result (List ℕ) Outcome} (Ok a) (Err o) → ⊥
 ok_not_err a o e = search rules
@@ -87,6 +86,8 @@ module _ (plan : Plan (List ℕ)) (shelf shelf' : ShelfView) (out out' err err' 
   due_caused (outcome.SchemaRefused r) due same (inr (is, failed)) = subst Caused (sym is) (same, outcome.SchemaRefused r, due, failed)
   due_caused (outcome.DataRefused b) due same (inl (is, took)) = subst Caused (sym is) (due, (same, took))
   due_caused (outcome.DataRefused b) due same (inr (is, failed)) = subst Caused (sym is) (same, outcome.DataRefused b, due, failed)
+  due_caused (outcome.ArgsRefused b) due same (inl (is, took)) = subst Caused (sym is) (due, (same, took))
+  due_caused (outcome.ArgsRefused b) due same (inr (is, failed)) = subst Caused (sym is) (same, outcome.ArgsRefused b, due, failed)
   due_caused (outcome.QueryRefused r) due same (inl (is, took)) = subst Caused (sym is) (due, (same, took))
   due_caused (outcome.QueryRefused r) due same (inr (is, failed)) = subst Caused (sym is) (same, outcome.QueryRefused r, due, failed)
   due_caused (outcome.RunFault f) due same (inl (is, took)) = subst Caused (sym is) (due, (same, took))
@@ -105,6 +106,7 @@ module _ (plan : Plan (List ℕ)) (shelf shelf' : ShelfView) (out out' err err' 
   refusal_caused (TooLong d) may went same line = due_caused (outcome.TooLong d) (may, refuses_held (TooLong d) went) same line
   refusal_caused (Schema r) may went same line = due_caused (outcome.SchemaRefused r) (may, refuses_held (Schema r) went) same line
   refusal_caused (Data b) may went same line = due_caused (outcome.DataRefused b) (may, refuses_held (Data b) went) same line
+  refusal_caused (Args b) may went same line = due_caused (outcome.ArgsRefused b) (may, refuses_held (Args b) went) same line
   refusal_caused (Query r) may went same line = due_caused (outcome.QueryRefused r) (may, refuses_held (Query r) went) same line
 
   -- what was answered, in its kind
@@ -152,6 +154,7 @@ module _ (plan : Plan (List ℕ)) (shelf shelf' : ShelfView) (out out' err err' 
   unwritten_told (Schema r) = refl
   unwritten_told (Data b) = refl
   unwritten_told (Query r) = refl
+  unwritten_told (Args b) = refl
 
   answered : (text : List ℕ) → Delivers (Ok text) out out' err err' result → Serves out out' err err' result (Answers text)
   answered text (same, inl (is, took)) = inl (is, same, took)

@@ -1,8 +1,7 @@
 -- What is decided of a text of data.
-use Rattle.std.proofs.Common.{◌≡◌, ℕ, List, [], ◌∷◌, Option, Some, None, Result, Ok, Err, ◌⊎◌, inl, inr, refl, sym, ap, ◌∙◌, subst, rules}
+use Rattle.std.proofs.Common.{◌≡◌, ℕ, List, Option, Some, Result, Ok, Err, ◌⊎◌, inl, inr, refl, sym, ap, ◌∙◌, subst, rules}
 use Rattle.serde_json.specs.Data.{Data}
-use Rattle.serde_json.specs.Read.{read}
-use Rattle.db_load.specs.Load.{IsLoaded, stored, at_text}
+use Rattle.db_load.specs.Load.{IsLoaded, stored}
 use Rattle.ev_schema.specs.declared.schema.Schema.{Schema}
 use Rattle.json_draft.specs.Form.{document}
 use Rattle.json_draft.specs.Text.{Says}
@@ -10,10 +9,10 @@ use Rattle.obj_draft.specs.declared.refusal.Broken.{Broken}
 use Rattle.obj_draft.specs.declared.refusal.DataRefusal.{DataRefusal}
 use Rattle.obj_draft.specs.declared.refusal.DataRefusal.TheVariants as load
 use Rattle.store_check.specs.declared.store.Store.{Store}
-use Rattle.edge_run.specs.Data.{IsStore, IsRefused, Decides}
+use Rattle.edge_run.specs.Data.{Decides}
 use Rattle.edge_run.specs.Judgement.{AsData, IsDecided}
 use Rattle.edge_run.specs.Limits.{IsShort, IsLong}
-use Rattle.edge_run.specs.Refusal.{Refusal, Usage, TooLong, Query}
+use Rattle.edge_run.specs.Refusal.{Refusal, Usage, TooLong, Query, Args}
 use Rattle.edge_run.specs.Refusal as refused
 use Rattle.edge_run.specs.declared.outcome.Doc.{Doc}
 use Rattle.edge_run.specs.declared.outcome.Doc.TheVariants as doc
@@ -37,7 +36,7 @@ refused_is_decided s text b short is = inr (Err (refused.Data b), record { short
 some_is : (a b : Data) → ◌≡◌ {A = Option Data} (Some a) (Some b) → a ≡ b
 some_is a b e = cc
 
-one_value : (text : List ℕ) (a b : Data) → Says text a → Says text b → a ≡ b
+pub one_value : (text : List ℕ) (a b : Data) → Says text a → Says text b → a ≡ b
 one_value text a b is is' = some_is a b (sym is.1 ∙ is'.1)
 
 abbrev NotMemory : Result Store DataRefusal → Type 0
@@ -75,15 +74,18 @@ one_decision s text (Ok a) (Err (refused.Schema r)) is is' = absurd is'
 one_decision s text (Ok a) (Err (refused.Data b)) is is' =
     absurd (store_not_broken a b (one_load s text (Ok a) (Err (load.Rule b)) (store_stands a) (broken_stands b) is.loaded is'.reason))
 one_decision s text (Ok a) (Err (Query r)) is is' = absurd is'
+one_decision s text (Ok a) (Err (Args r)) is is' = absurd is'
 one_decision s text (Err (Usage u)) b is is' = absurd is
 one_decision s text (Err (refused.Schema r)) b is is' = absurd is
 one_decision s text (Err (Query r)) b is is' = absurd is
+one_decision s text (Err (Args r)) b is is' = absurd is
 one_decision s text (Err (TooLong d)) (Ok b) is is' = absurd (short_not_long doc.Data text is'.short is.1)
 one_decision s text (Err (TooLong d)) (Err (Usage u)) is is' = absurd is'
 one_decision s text (Err (TooLong d)) (Err (TooLong e)) is is' = ap (λ (x : Doc). Err (TooLong x)) (is.0 ∙ sym is'.0)
 one_decision s text (Err (TooLong d)) (Err (refused.Schema r)) is is' = absurd is'
 one_decision s text (Err (TooLong d)) (Err (refused.Data b)) is is' = absurd (short_not_long doc.Data text is'.short is.1)
 one_decision s text (Err (TooLong d)) (Err (Query q)) is is' = absurd is'
+one_decision s text (Err (TooLong d)) (Err (Args q)) is is' = absurd is'
 one_decision s text (Err (refused.Data b)) (Ok a) is is' =
     absurd (store_not_broken a b (one_load s text (Ok a) (Err (load.Rule b)) (store_stands a) (broken_stands b) is'.loaded is.reason))
 one_decision s text (Err (refused.Data b)) (Err (Usage u)) is is' = absurd is'
@@ -92,6 +94,7 @@ one_decision s text (Err (refused.Data b)) (Err (refused.Schema r)) is is' = abs
 one_decision s text (Err (refused.Data b)) (Err (refused.Data c)) is is' =
     ap (λ (x : Broken). Err (refused.Data x)) (broken_is b c (one_load s text (Err (load.Rule b)) (Err (load.Rule c)) (broken_stands b) (broken_stands c) is.reason is'.reason))
 one_decision s text (Err (refused.Data b)) (Err (Query q)) is is' = absurd is'
+one_decision s text (Err (refused.Data b)) (Err (Args q)) is is' = absurd is'
 
 -- what is decided of the first bytes, one more than the limit, is decided of the whole
 pub front_decides : (s : Schema) (text : List ℕ) (r : Result Store Refusal) → Decides s (front doc.Data text) r → Decides s text r
@@ -105,3 +108,4 @@ front_decides s text r is = by_length text r (short_or_long doc.Data text) is
     by_length t (Err (refused.Schema r)) (inr more) is = is
     by_length t (Err (refused.Data r)) (inr more) is = absurd (short_not_long doc.Data _ is.short (front_long doc.Data t more))
     by_length t (Err (Query q)) (inr more) is = is
+    by_length t (Err (Args q)) (inr more) is = is

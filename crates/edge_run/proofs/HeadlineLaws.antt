@@ -1,19 +1,17 @@
 -- The headline, from one run.
-use Rattle.std.proofs.Common.{◌≡◌, ℕ, List, Option, Some, Result, Ok, Err, ◌⊎◌, inl, inr, Contains, refl, sym, ap, ◌∙◌, subst, rules}
+use Rattle.std.proofs.Common.{◌≡◌, ℕ, List, Option, Some, Result, Err, ◌⊎◌, inl, inr, sym, subst}
 use Rattle.ev_io.specs.Count.{Rose}
 use Rattle.ev_io.specs.Shelf.{ShelfView}
-use Rattle.ev_io.specs.Sink.{SinkView, PutTakes, PutFails}
-use Rattle.ev_value.specs.declared.item.Fault.{Fault}
-use Rattle.edge_run.specs.Deliver.{Delivers, Tells, unwritten_of}
+use Rattle.ev_io.specs.Sink.{SinkView}
+use Rattle.edge_run.specs.Deliver.{Delivers, Tells}
 use Rattle.edge_run.specs.Due.{Due}
-use Rattle.edge_run.specs.Headline.{IsDueFor, IsAnswer, IsRefusal, IsCauseOf, IsHeadline, FailsToRead, IsExact}
+use Rattle.edge_run.specs.Headline.{IsDueFor, IsRefusal, IsCauseOf, IsHeadline, FailsToRead, IsExact}
 use Rattle.edge_run.specs.Ends.{ComesTo, Serves}
 use Rattle.edge_run.specs.Modes.{plan_of}
-use Rattle.edge_run.specs.Outcome.{line_of}
-use Rattle.edge_run.specs.Plan.{Plan, Goes, Verdict, Answers, Refuses, Faults, Missing, Refuse, Comes, MayRefuse, MayRead}
-use Rattle.edge_run.specs.Refusal.{Refusal, Usage, TooLong, Schema, Data, Query, told}
+use Rattle.edge_run.specs.Plan.{Plan, Goes, Verdict, Answers, Refuses, Faults, Refuse, Comes, MayRead}
+use Rattle.edge_run.specs.Refusal.{Refusal, Usage, TooLong, Schema, Data, Query, Args}
 use Rattle.edge_run.specs.Run.{Runs, Over, IsRefusalDue, IsDue, IsCaused, IsComplete}
-use Rattle.edge_run.specs.Task.{Task, Asks, FailsUsage, Reads}
+use Rattle.edge_run.specs.Task.{Task, Asks, FailsUsage}
 use Rattle.edge_run.specs.declared.outcome.Chan.TheVariants as chan
 use Rattle.edge_run.specs.declared.outcome.Doc.{Doc}
 use Rattle.edge_run.specs.declared.outcome.UsageRule.{UsageRule}
@@ -117,6 +115,7 @@ module _ (words : List (List ℕ)) (shelf shelf' : ShelfView) (out out' err err'
     cause (outcome.WriteFault c) due = due
     cause (outcome.SchemaRefused r) due = refusal_cause (Schema r) due
     cause (outcome.DataRefused b) due = refusal_cause (Data b) due
+    cause (outcome.ArgsRefused b) due = refusal_cause (Args b) due
     cause (outcome.QueryRefused r) due = refusal_cause (Query r) due
     cause (outcome.RunFault f) held =
         (t, asks, λ files is. let h = held files is in (h.0, comes_due t files (Faults h.0) h.1, h.2))
@@ -132,6 +131,7 @@ module _ (words : List (List ℕ)) (shelf shelf' : ShelfView) (out out' err err'
     from_caused (outcome.TooLong d) (due, (same, took)) = (cause (outcome.TooLong d) due, same, took)
     from_caused (outcome.SchemaRefused r) (due, (same, took)) = (cause (outcome.SchemaRefused r) due, same, took)
     from_caused (outcome.DataRefused b) (due, (same, took)) = (cause (outcome.DataRefused b) due, same, took)
+    from_caused (outcome.ArgsRefused b) (due, (same, took)) = (cause (outcome.ArgsRefused b) due, same, took)
     from_caused (outcome.QueryRefused r) (due, (same, took)) = (cause (outcome.QueryRefused r) due, same, took)
     from_caused (outcome.RunFault f) (due, (same, took)) = (cause (outcome.RunFault f) due, same, took)
 

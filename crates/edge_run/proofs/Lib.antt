@@ -1,4 +1,5 @@
 pub mod Answered
+pub mod ArgsLaws
 pub mod Clauses
 pub mod DataLaws
 pub mod Decisions

@@ -1,8 +1,8 @@
 -- The types that each type extends are told by the types that are written there.
-use Rattle.std.proofs.Common.{◌≡◌, ◌⊎◌, ◌<◌, ℕ, zero, suc, ◌+◌, List, [], ◌∷◌, length, Option, Some, None, slice_get, Contains, inl, inr, refl, sym, ap, subst, ◌∙◌, arith}
+use Rattle.std.proofs.Common.{◌≡◌, ◌⊎◌, ◌<◌, ℕ, zero, suc, List, [], ◌∷◌, length, Contains, inl, inr, refl, sym, ap, subst, ◌∙◌, arith}
 use Rattle.std.proofs.lemmas.List.Elements.{Contains-append_right}
 use Rattle.core_ir.specs.declared.path.TypeId.{TypeId}
-use Rattle.schema_build.specs.Lineage.{at, Extends, Rises, IsLineage, AreLineages}
+use Rattle.schema_build.specs.Lineage.{at, Rises, IsLineage, AreLineages}
 
 none_in : {A : Type 0} (x : A) → Contains [] x → ⊥
 none_in x h = absurd (omega (arith, h.1))

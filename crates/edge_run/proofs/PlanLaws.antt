@@ -2,7 +2,7 @@
 use Rattle.std.proofs.Common.{◌≡◌, ℕ, ◌≤◌, List, [], ◌∷◌, ◌++◌, take, Option, Some, None, option_map, Result, Ok, Err, ◌⊎◌, inl, inr, Contains, true, false, refl, sym, ap, ◌∙◌, subst, arith, rules, append_assoc, append-nil}
 use Rattle.ev_value.specs.declared.item.Fault.{Fault}
 use Rattle.ev_io.specs.Count.{Rose}
-use Rattle.ev_io.specs.Shelf.{ShelfView, Quiet, Calm, Call, call_of}
+use Rattle.ev_io.specs.Shelf.{ShelfView, Quiet, Call, call_of}
 use Rattle.edge_run.specs.Plan.{Plan, Answer, Refuse, Fail, Read, Judge, ◌>>=◌, Goes, Stops, ruled, Verdict, Comes, IfHeld, Along, MayRefuse, MayRead}
 use Rattle.edge_run.specs.Plan as verdict_of
 use Rattle.edge_run.specs.Judgement.{Judgement, Matter, Decides, IsDecided}

@@ -1,5 +1,5 @@
 -- What is decided of the text of a schema.
-use Rattle.std.proofs.Common.{◌≡◌, ℕ, ◌<◌, ◌^◌, Bool, true, false, List, [], ◌∷◌, length, Option, Some, None, Result, Ok, Err, ◌⊎◌, inl, inr, refl, sym, ap, ◌∙◌, subst, arith, rules}
+use Rattle.std.proofs.Common.{◌≡◌, ℕ, ◌<◌, ◌^◌, Bool, true, false, List, length, Option, Some, None, Result, Ok, Err, ◌⊎◌, inl, inr, refl, sym, ap, ◌∙◌, subst, arith, rules}
 use Rattle.std.specs.List.{list_any}
 use Rattle.core_ir.specs.declared.path.TypeId.{TypeId}
 use Rattle.eql_parse.proofs.Few.{few_tokens}
@@ -9,11 +9,11 @@ use Rattle.ev_lex.proofs.Readings.{one_cut, one_refusal, cut_not_refused}
 use Rattle.ev_schema.specs.declared.schema.Schema.{Schema}
 use Rattle.exact.specs.Promise as exact
 use Rattle.exact.specs.declared.rule.Rule.{Rule}
-use Rattle.schema_build.specs.Lineage.{AreLineages, bases_of}
+use Rattle.schema_build.specs.Lineage.{bases_of}
 use Rattle.schema_build.specs.Parts.{decls_of, foreign_module, has_unbuilt}
 use Rattle.schema_build.specs.Least.{least_of}
 use Rattle.schema_build.specs.Twice.{type_names}
-use Rattle.schema_build.specs.Verdict.{IsAnswer, IsDue, first_verdict, later_verdict, schema_of} 
+use Rattle.schema_build.specs.Verdict.{IsAnswer, IsDue, first_verdict, later_verdict, schema_of}
 use Rattle.schema_build.specs.Verdict as verdict
 use Rattle.schema_build.specs.declared.refusal.Broken.{Broken}
 use Rattle.schema_build.specs.declared.refusal.SchemaRefusal as b
@@ -24,9 +24,9 @@ use Rattle.sdl_grammar.specs.Promise.{SchemaText, IsSchema}
 use Rattle.sdl_grammar.proofs.Promise as texts
 use Rattle.edge_run.specs.Judgement.{AsSchema, IsDecided}
 use Rattle.edge_run.specs.Limits.{IsShort, IsLong}
-use Rattle.edge_run.specs.Refusal.{Refusal, Usage, TooLong, Data, Query}
+use Rattle.edge_run.specs.Refusal.{Refusal, Usage, TooLong, Data, Query, Args}
 use Rattle.edge_run.specs.Refusal as refused
-use Rattle.edge_run.specs.Schema.{IsSpelled, IsBuilt, IsReason, IsRefused, Decides, IsTold, IsTokens, IsParsed, IsSurface, IsMade}
+use Rattle.edge_run.specs.Schema.{IsSpelled, IsBuilt, IsReason, Decides, IsTold, IsParsed, IsSurface, IsMade}
 use Rattle.edge_run.specs.declared.outcome.Doc.{Doc}
 use Rattle.edge_run.specs.declared.outcome.Doc.TheVariants as doc
 use Rattle.edge_run.specs.declared.outcome.Outcome.{Outcome}
@@ -69,6 +69,7 @@ made_is_decided text file (Err (outcome.TooLong d)) short spelled is = absurd is
 made_is_decided text file (Err (outcome.WriteFault c)) short spelled is = absurd is
 made_is_decided text file (Err (outcome.DataRefused d)) short spelled is = absurd is
 made_is_decided text file (Err (outcome.QueryRefused q)) short spelled is = absurd is
+made_is_decided text file (Err (outcome.ArgsRefused d)) short spelled is = absurd is
 made_is_decided text file (Err (outcome.RunFault f)) short spelled is = absurd is
 
 -- ---- of each text at most one thing is decided
@@ -176,21 +177,25 @@ one_decision text (Ok a) (Err (TooLong d)) is is' = absurd (short_not_long doc.S
 one_decision text (Ok a) (Err (refused.Schema r)) is is' = absurd (built_or_refused text a r is is'.reason)
 one_decision text (Ok a) (Err (Data d)) is is' = absurd is'
 one_decision text (Ok a) (Err (Query q)) is is' = absurd is'
+one_decision text (Ok a) (Err (Args q)) is is' = absurd is'
 one_decision text (Err (Usage u)) c is is' = absurd is
 one_decision text (Err (Data d)) c is is' = absurd is
 one_decision text (Err (Query q)) c is is' = absurd is
+one_decision text (Err (Args q)) c is is' = absurd is
 one_decision text (Err (TooLong d)) (Ok c) is is' = absurd (short_not_long doc.Schema text is'.short is.1)
 one_decision text (Err (TooLong d)) (Err (Usage u)) is is' = absurd is'
 one_decision text (Err (TooLong d)) (Err (TooLong e)) is is' = ap (λ (x : Doc). Err (TooLong x)) (is.0 ∙ sym is'.0)
 one_decision text (Err (TooLong d)) (Err (refused.Schema r)) is is' = absurd (short_not_long doc.Schema text is'.short is.1)
 one_decision text (Err (TooLong d)) (Err (Data e)) is is' = absurd is'
 one_decision text (Err (TooLong d)) (Err (Query q)) is is' = absurd is'
+one_decision text (Err (TooLong d)) (Err (Args q)) is is' = absurd is'
 one_decision text (Err (refused.Schema r)) (Ok c) is is' = absurd (built_or_refused text c r is' is.reason)
 one_decision text (Err (refused.Schema r)) (Err (Usage u)) is is' = absurd is'
 one_decision text (Err (refused.Schema r)) (Err (TooLong d)) is is' = absurd (short_not_long doc.Schema text is.short is'.1)
 one_decision text (Err (refused.Schema r)) (Err (refused.Schema q)) is is' = ap (λ (x : SchemaRefusal). Err (refused.Schema x)) (one_reason text r q is.reason is'.reason)
 one_decision text (Err (refused.Schema r)) (Err (Data d)) is is' = absurd is'
 one_decision text (Err (refused.Schema r)) (Err (Query q)) is is' = absurd is'
+one_decision text (Err (refused.Schema r)) (Err (Args q)) is is' = absurd is'
 
 -- what is decided of the first bytes, one more than the limit, is decided of the whole
 pub front_decides : (text : List ℕ) (r : Result Schema Refusal) → Decides (front doc.Schema text) r → Decides text r
@@ -204,3 +209,4 @@ front_decides text r is = by_length text r (short_or_long doc.Schema text) is
     by_length t (Err (refused.Schema r)) (inr more) is = absurd (short_not_long doc.Schema _ is.short (front_long doc.Schema t more))
     by_length t (Err (Data b)) (inr more) is = is
     by_length t (Err (Query q)) (inr more) is = is
+    by_length t (Err (Args q)) (inr more) is = is

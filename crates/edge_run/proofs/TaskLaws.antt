@@ -1,17 +1,17 @@
 -- What the plan of a task comes to, against what is due for the task.
-use Rattle.std.proofs.Common.{◌≡◌, ◌≢◌, ℕ, ◌+◌, List, [], ◌∷◌, take, Option, Some, None, Result, Ok, Err, ◌⊎◌, inl, inr, refl, sym, ap, ◌∙◌, subst, rules}
+use Rattle.std.proofs.Common.{◌≡◌, ℕ, ◌+◌, ◌<◌, codes, arith, List, [], ◌∷◌, take, Option, Some, None, Result, Ok, Err, ◌⊎◌, inl, inr, refl, sym, ◌∙◌, subst, rules}
 use Rattle.const_ir.specs.Meaning.{items}
 use Rattle.ev_value.specs.Item.{faults, values}
 use Rattle.ev_value.specs.declared.item.Fault.{Fault}
 use Rattle.ev_value.specs.declared.item.Item.{Item}
 use Rattle.ev_value.specs.declared.value.Val.{Val}
-use Rattle.edge_run.specs.Due.{Due, OfDocument, OfText, OfDecision, OfItems}
-use Rattle.edge_run.specs.Judgement.{Judgement, AsSchema, AsData, AsConst, Matter, Decides, doc_of}
+use Rattle.edge_run.specs.Due.{Due, OfDocument, OfText, OfDecision, OfItems, OfArgs}
+use Rattle.edge_run.specs.Judgement.{Judgement, AsSchema, AsData, AsQuery, AsArgs, AsConst, Matter, Decides, doc_of}
 use Rattle.edge_run.specs.Limits.{limit_of}
-use Rattle.edge_run.specs.Modes.{answered, answer_text, census, judged_document, const_plan, counted_plan, check_plan}
-use Rattle.edge_run.specs.Plan.{Plan, Answer, Fail, Refuse, Read, Judge, ◌>>=◌, ruled, Verdict, Answers, Refuses, Faults, Missing, Comes, IfHeld, MayRefuse, MayRead}
-use Rattle.edge_run.specs.Refusal.{Refusal, Usage, TooLong, Schema, Data, Query}
-use Rattle.edge_run.specs.Task.{Task, Const, Check, Reads, Tells}
+use Rattle.edge_run.specs.Modes.{answered, answer_text, census, judged_document, const_plan, counted_plan, check_plan, items_over, args_plan, answered_plan, queried_plan, stored_plan, run_plan}
+use Rattle.edge_run.specs.Plan.{Plan, Answer, Fail, Judge, ◌>>=◌, ruled, Verdict, Answers, Faults, Missing, Comes, IfHeld, MayRefuse, MayRead}
+use Rattle.edge_run.specs.Refusal.{Refusal, Usage, TooLong, Schema, Data, Query, Args}
+use Rattle.edge_run.specs.Task.{Task, Const, Check, Run, Reads, Tells, TakesArgs, AreNamed}
 use Rattle.edge_run.specs.declared.outcome.Doc.{Doc}
 use Rattle.edge_run.specs.declared.outcome.Doc.TheVariants as doc
 use Rattle.edge_run.proofs.Answered.{faultless, faulty}
@@ -21,6 +21,7 @@ use Rattle.edge_run.proofs.Decisions.{front_decides}
 abbrev pub plan_for : Task → Plan (List ℕ)
 plan_for (Const query) = const_plan query
 plan_for (Check schema_name data_name) = check_plan schema_name data_name
+plan_for (Run schema_name data_name query args) = run_plan schema_name data_name query args
 
 -- ---- what is due of an answer's items
 
@@ -83,15 +84,58 @@ unfolding counted_plan Comes
 counted_due files schema name v c =
     document_due (AsData schema) files name (λ store. Answer (census schema store)) (λ store w. w ≡ Answers (census schema store)) v (λ store is. is) c
 
+text_due : (j : Judgement) (files : List ℕ → Option (List ℕ)) (text : List ℕ) (f : Matter j → Plan (List ℕ)) (next : Matter j → Verdict (List ℕ) → Type 0)
+    (v : Verdict (List ℕ)) → ((a : Matter j) → Comes files (f a) v → next a v) → Comes files (Judge j text ruled >>= f) v → OfText j text next v
+unfolding Comes ◌>>=◌
+text_due j files text f next v then (decided, is, c) = (decided, is, ruled_due files decided f next v then c)
+
+args_due : (files : List ℕ → Option (List ℕ)) (schema : _) (name : Option (List ℕ)) (f : Matter (AsArgs schema) → Plan (List ℕ))
+    (next : Matter (AsArgs schema) → Verdict (List ℕ) → Type 0) (v : Verdict (List ℕ)) → ((a : Matter (AsArgs schema)) → Comes files (f a) v → next a v)
+    → Comes files (args_plan schema name >>= f) v → OfArgs schema files name next v
+unfolding args_plan
+args_due files schema None f next v then c = text_due (AsArgs schema) files (codes "{}") f next v then c
+args_due files schema (Some name) f next v then c = document_due (AsArgs schema) files name f next v then c
+
+-- what is due of a query over some objects
+abbrev QueryDue : (schema : Matter AsSchema) → Matter (AsData schema) → (List ℕ → Option (List ℕ)) → List ℕ → Option (List ℕ) → Verdict (List ℕ) → Type 0
+QueryDue schema store files query_name args_name v =
+    OfDocument (AsQuery schema) (files query_name) (λ query. OfArgs schema files args_name (λ args. OfItems (items_over schema store query args))) v
+
+answered_due : (files : List ℕ → Option (List ℕ)) (schema : _) (store : _) (query : _) (args_name : Option (List ℕ)) (v : Verdict (List ℕ))
+    → Comes files (answered_plan schema store query args_name) v → OfArgs schema files args_name (λ args. OfItems (items_over schema store query args)) v
+unfolding answered_plan
+answered_due files schema store query args_name v c =
+    args_due files schema args_name (λ args. answered (items_over schema store query args)) (λ args. OfItems (items_over schema store query args)) v
+    (λ args. items_due files (items_over schema store query args) v) c
+
+queried_due : (files : List ℕ → Option (List ℕ)) (schema : _) (store : _) (query_name : List ℕ) (args_name : Option (List ℕ)) (v : Verdict (List ℕ))
+    → Comes files (queried_plan schema store query_name args_name) v → QueryDue schema store files query_name args_name v
+unfolding queried_plan
+queried_due files schema store query_name args_name v c =
+    document_due (AsQuery schema) files query_name (λ query. answered_plan schema store query args_name)
+    (λ query. OfArgs schema files args_name (λ args. OfItems (items_over schema store query args))) v (λ query. answered_due files schema store query args_name v) c
+
+stored_due : (files : List ℕ → Option (List ℕ)) (schema : _) (data_name query_name : List ℕ) (args_name : Option (List ℕ)) (v : Verdict (List ℕ))
+    → Comes files (stored_plan schema data_name query_name args_name) v
+    → OfDocument (AsData schema) (files data_name) (λ store. QueryDue schema store files query_name args_name) v
+unfolding stored_plan
+stored_due files schema data_name query_name args_name v c =
+    document_due (AsData schema) files data_name (λ store. queried_plan schema store query_name args_name) (λ store. QueryDue schema store files query_name args_name) v
+    (λ store. queried_due files schema store query_name args_name v) c
+
 -- What the plan of a task comes to is due.
 pub comes_due : (t : Task) (files : List ℕ → Option (List ℕ)) (v : Verdict (List ℕ)) → Comes files (plan_for t) v → Due t files v
-unfolding const_plan check_plan
+unfolding const_plan check_plan run_plan
 comes_due (Const query) files v c =
     document_due AsConst files query (λ tree. answered (items tree)) (λ tree. OfItems (items tree)) v (λ tree. items_due files (items tree) v) c
 comes_due (Check schema_name data_name) files v c =
     document_due AsSchema files schema_name (λ schema. counted_plan schema data_name)
     (λ schema. OfDocument (AsData schema) (files data_name) (λ store w. w ≡ Answers (census schema store))) v
     (λ schema. counted_due files schema data_name v) c
+comes_due (Run schema_name data_name query_name args_name) files v c =
+    document_due AsSchema files schema_name (λ schema. stored_plan schema data_name query_name args_name)
+    (λ schema. OfDocument (AsData schema) (files data_name) (λ store. QueryDue schema store files query_name args_name)) v
+    (λ schema. stored_due files schema data_name query_name args_name v) c
 
 -- ---- which rules may refuse a task, and which documents it reads
 
@@ -102,6 +146,7 @@ TellsOf j (TooLong d) = d ≡ doc_of j
 TellsOf j (Schema r) = doc.Schema ≡ doc_of j
 TellsOf j (Data b) = doc.Data ≡ doc_of j
 TellsOf j (Query r) = doc.Query ≡ doc_of j
+TellsOf j (Args b) = doc.Args ≡ doc_of j
 
 decided_tells : (j : Judgement) (text : List ℕ) (x : Refusal) → Decides j text (Err x) → TellsOf j x
 decided_tells AsSchema text (Usage u) is = is
@@ -109,16 +154,31 @@ decided_tells AsSchema text (TooLong d) is = is.0
 decided_tells AsSchema text (Schema r) is = refl
 decided_tells AsSchema text (Data b) is = absurd is
 decided_tells AsSchema text (Query r) is = absurd is
+decided_tells AsSchema text (Args b) is = absurd is
 decided_tells (AsData s) text (Usage u) is = is
 decided_tells (AsData s) text (TooLong d) is = is.0
 decided_tells (AsData s) text (Schema r) is = absurd is
 decided_tells (AsData s) text (Data b) is = refl
 decided_tells (AsData s) text (Query r) is = absurd is
+decided_tells (AsData s) text (Args b) is = absurd is
 decided_tells AsConst text (Usage u) is = is
 decided_tells AsConst text (TooLong d) is = is.0
 decided_tells AsConst text (Schema r) is = absurd is
 decided_tells AsConst text (Data b) is = absurd is
 decided_tells AsConst text (Query r) is = refl
+decided_tells AsConst text (Args b) is = absurd is
+decided_tells (AsQuery s) text (Usage u) is = is
+decided_tells (AsQuery s) text (TooLong d) is = is.0
+decided_tells (AsQuery s) text (Schema r) is = absurd is
+decided_tells (AsQuery s) text (Data b) is = absurd is
+decided_tells (AsQuery s) text (Query r) is = refl
+decided_tells (AsQuery s) text (Args b) is = absurd is
+decided_tells (AsArgs s) text (Usage u) is = is
+decided_tells (AsArgs s) text (TooLong d) is = is.0
+decided_tells (AsArgs s) text (Schema r) is = absurd is
+decided_tells (AsArgs s) text (Data b) is = absurd is
+decided_tells (AsArgs s) text (Query r) is = absurd is
+decided_tells (AsArgs s) text (Args b) is = refl
 
 ruled_refuses : {A : Type 0} (j : Judgement) (text : List ℕ) (decided : Result (Matter j) Refusal) (f : Matter j → Plan A) (x : Refusal) → Decides j text decided
     → MayRefuse (ruled decided >>= f) x → TellsOf j x ⊎ ((a : Matter j) × MayRefuse (f a) x)
@@ -174,6 +234,12 @@ answer_reads : (text : List ℕ) (d : Doc) → MayRead (Answer text) d → ⊥
 unfolding MayRead
 answer_reads text d may = may
 
+takes_args : (t : Task) → Reads t doc.Args → TakesArgs t
+takes_args (Const query) reads = search rules
+takes_args (Check schema_name data_name) (inl e) = search rules
+takes_args (Check schema_name data_name) (inr e) = search rules
+takes_args (Run schema_name data_name query_name args_name) reads = tt
+
 -- a rule on a document that the task reads may refuse it
 tells_at : (t : Task) (j : Judgement) (x : Refusal) → Reads t (doc_of j) → TellsOf j x → Tells t x
 tells_at t j (Usage u) reads tells = tells
@@ -181,6 +247,7 @@ tells_at t j (TooLong d) reads tells = subst (Reads t) (sym tells) reads
 tells_at t j (Schema r) reads tells = subst (Reads t) (sym tells) reads
 tells_at t j (Data b) reads tells = subst (Reads t) (sym tells) reads
 tells_at t j (Query r) reads tells = subst (Reads t) (sym tells) reads
+tells_at t j (Args b) reads tells = takes_args t (subst (Reads t) (sym tells) reads)
 
 counted_refuses : (t : Task) (schema : _) (name : List ℕ) (x : Refusal) → Reads t doc.Data → MayRefuse (counted_plan schema name) x → Tells t x
 unfolding counted_plan
@@ -196,9 +263,100 @@ counted_reads schema name d may = elim (document_reads (AsData schema) name (λ 
   | inr later ↦ absurd (answer_reads (census schema later.0) d later.1)
 ]
 
+module _ (schema_name data_name query_name : List ℕ) where
+  -- the task of mode `run` over these names
+  abbrev Asked : Option (List ℕ) → Task
+  Asked args_name = Run schema_name data_name query_name args_name
+
+  too_short : (schema : _) (d : Doc) → Decides (AsArgs schema) (codes "{}") (Err (TooLong d)) → ⊥
+  too_short schema d (e, long) = no_less long
+    where
+      no_less : 1048576 < 2 → ⊥
+      no_less h = omega arith
+
+  -- of a text without arguments no rule but one on arguments may be told
+  braces_tell : (schema : _) (x : Refusal) → Decides (AsArgs schema) (codes "{}") (Err x) → Tells (Asked None) x
+  braces_tell schema (Usage u) is = is
+  braces_tell schema (TooLong d) is = absurd (too_short schema d is)
+  braces_tell schema (Schema r) is = absurd is
+  braces_tell schema (Data b) is = absurd is
+  braces_tell schema (Query r) is = absurd is
+  braces_tell schema (Args b) is = tt
+
+  none_refuses : (schema : _) (decided : _) (f : Matter (AsArgs schema) → Plan (List ℕ)) (x : Refusal) → Decides (AsArgs schema) (codes "{}") decided
+      → MayRefuse (ruled decided >>= f) x → Tells (Asked None) x ⊎ ((a : Matter (AsArgs schema)) × MayRefuse (f a) x)
+  unfolding MayRefuse ruled ◌>>=◌
+  none_refuses schema (Ok a) f x is may = inr (a, may)
+  none_refuses schema (Err r) f x is may = inl (subst (Tells (Asked None)) (sym may) (braces_tell schema r is))
+
+  args_refuse : (schema : _) (args_name : Option (List ℕ)) (f : Matter (AsArgs schema) → Plan (List ℕ)) (x : Refusal)
+      → MayRefuse (args_plan schema args_name >>= f) x → Tells (Asked args_name) x ⊎ ((a : Matter (AsArgs schema)) × MayRefuse (f a) x)
+  unfolding args_plan MayRefuse ◌>>=◌
+  args_refuse schema None f x (decided, is, may) = none_refuses schema decided f x is may
+  args_refuse schema (Some name) f x may = elim (document_refuses (AsArgs schema) name f x may) [
+    | inl tells ↦ inl (tells_at (Asked (Some name)) (AsArgs schema) x (inr (inr (inr (refl, tt)))) tells)
+    | inr later ↦ inr later
+  ]
+
+  args_read : (schema : _) (args_name : Option (List ℕ)) (f : Matter (AsArgs schema) → Plan (List ℕ)) (d : Doc)
+      → MayRead (args_plan schema args_name >>= f) d → ((d ≡ doc.Args) × AreNamed args_name) ⊎ ((a : Matter (AsArgs schema)) × MayRead (f a) d)
+  unfolding args_plan MayRead ◌>>=◌
+  args_read schema None f d (decided, is, may) = inr (ruled_reads (AsArgs schema) decided f d may)
+  args_read schema (Some name) f d may = elim (document_reads (AsArgs schema) name f d may) [
+    | inl e ↦ inl (e, tt)
+    | inr later ↦ inr later
+  ]
+
+  answered_refuses : (schema : _) (store : _) (query : _) (args_name : Option (List ℕ)) (x : Refusal) → MayRefuse (answered_plan schema store query args_name) x
+      → Tells (Asked args_name) x
+  unfolding answered_plan
+  answered_refuses schema store query args_name x may = elim (args_refuse schema args_name (λ args. answered (items_over schema store query args)) x may) [
+    | inl tells ↦ tells
+    | inr later ↦ absurd (items_refuse (items_over schema store query later.0) x later.1)
+  ]
+
+  answered_reads : (schema : _) (store : _) (query : _) (args_name : Option (List ℕ)) (d : Doc) → MayRead (answered_plan schema store query args_name) d
+      → (d ≡ doc.Args) × AreNamed args_name
+  unfolding answered_plan
+  answered_reads schema store query args_name d may = elim (args_read schema args_name (λ args. answered (items_over schema store query args)) d may) [
+    | inl reads ↦ reads
+    | inr later ↦ absurd (items_read (items_over schema store query later.0) d later.1)
+  ]
+
+  queried_refuses : (schema : _) (store : _) (args_name : Option (List ℕ)) (x : Refusal) → MayRefuse (queried_plan schema store query_name args_name) x
+      → Tells (Asked args_name) x
+  unfolding queried_plan
+  queried_refuses schema store args_name x may = elim (document_refuses (AsQuery schema) query_name (λ query. answered_plan schema store query args_name) x may) [
+    | inl tells ↦ tells_at (Asked args_name) (AsQuery schema) x (inr (inr (inl refl))) tells
+    | inr later ↦ answered_refuses schema store later.0 args_name x later.1
+  ]
+
+  queried_reads : (schema : _) (store : _) (args_name : Option (List ℕ)) (d : Doc) → MayRead (queried_plan schema store query_name args_name) d
+      → (d ≡ doc.Query) ⊎ ((d ≡ doc.Args) × AreNamed args_name)
+  unfolding queried_plan
+  queried_reads schema store args_name d may = elim (document_reads (AsQuery schema) query_name (λ query. answered_plan schema store query args_name) d may) [
+    | inl e ↦ inl e
+    | inr later ↦ inr (answered_reads schema store later.0 args_name d later.1)
+  ]
+
+  stored_refuses : (schema : _) (args_name : Option (List ℕ)) (x : Refusal) → MayRefuse (stored_plan schema data_name query_name args_name) x → Tells (Asked args_name) x
+  unfolding stored_plan
+  stored_refuses schema args_name x may = elim (document_refuses (AsData schema) data_name (λ store. queried_plan schema store query_name args_name) x may) [
+    | inl tells ↦ tells_at (Asked args_name) (AsData schema) x (inr (inl refl)) tells
+    | inr later ↦ queried_refuses schema later.0 args_name x later.1
+  ]
+
+  stored_reads : (schema : _) (args_name : Option (List ℕ)) (d : Doc) → MayRead (stored_plan schema data_name query_name args_name) d
+      → (d ≡ doc.Data) ⊎ ((d ≡ doc.Query) ⊎ ((d ≡ doc.Args) × AreNamed args_name))
+  unfolding stored_plan
+  stored_reads schema args_name d may = elim (document_reads (AsData schema) data_name (λ store. queried_plan schema store query_name args_name) d may) [
+    | inl e ↦ inl e
+    | inr later ↦ inr (queried_reads schema later.0 args_name d later.1)
+  ]
+
 -- The rules that may refuse the plan of a task are those on the documents that it reads.
 pub may_tell : (t : Task) (x : Refusal) → MayRefuse (plan_for t) x → Tells t x
-unfolding const_plan check_plan
+unfolding const_plan check_plan run_plan
 may_tell (Const query) x may = elim (document_refuses AsConst query (λ tree. answered (items tree)) x may) [
   | inl tells ↦ tells_at (Const query) AsConst x refl tells
   | inr later ↦ absurd (items_refuse (items later.0) x later.1)
@@ -207,10 +365,15 @@ may_tell (Check schema_name data_name) x may = elim (document_refuses AsSchema s
   | inl tells ↦ tells_at (Check schema_name data_name) AsSchema x (inl refl) tells
   | inr later ↦ counted_refuses (Check schema_name data_name) later.0 data_name x (inr refl) later.1
 ]
+may_tell (Run schema_name data_name query_name args_name) x may =
+    elim (document_refuses AsSchema schema_name (λ schema. stored_plan schema data_name query_name args_name) x may) [
+      | inl tells ↦ tells_at (Run schema_name data_name query_name args_name) AsSchema x (inl refl) tells
+      | inr later ↦ stored_refuses schema_name data_name query_name later.0 args_name x later.1
+    ]
 
 -- The plan of a task reads the documents of the task alone.
 pub may_read : (t : Task) (d : Doc) → MayRead (plan_for t) d → Reads t d
-unfolding const_plan check_plan
+unfolding const_plan check_plan run_plan
 may_read (Const query) d may = elim (document_reads AsConst query (λ tree. answered (items tree)) d may) [
   | inl e ↦ e
   | inr later ↦ absurd (items_read (items later.0) d later.1)
@@ -219,3 +382,8 @@ may_read (Check schema_name data_name) d may = elim (document_reads AsSchema sch
   | inl e ↦ inl e
   | inr later ↦ inr (counted_reads later.0 data_name d later.1)
 ]
+may_read (Run schema_name data_name query_name args_name) d may =
+    elim (document_reads AsSchema schema_name (λ schema. stored_plan schema data_name query_name args_name) d may) [
+      | inl e ↦ inl e
+      | inr later ↦ inr (stored_reads schema_name data_name query_name later.0 args_name d later.1)
+    ]

@@ -1,7 +1,7 @@
 -- Each end tells at most one refusal.
 use Rattle.std.proofs.Common.{◌≡◌, Option, Some, None, refl, sym, ap, ◌∙◌, rules}
 use Rattle.ev_value.specs.declared.item.Fault.{Fault}
-use Rattle.edge_run.specs.Refusal.{Refusal, Usage, TooLong, Schema, Data, Query, told}
+use Rattle.edge_run.specs.Refusal.{Refusal, Usage, TooLong, Schema, Data, Query, Args, told}
 use Rattle.edge_run.specs.declared.outcome.Doc.{Doc}
 use Rattle.edge_run.specs.declared.outcome.Outcome.{Outcome}
 use Rattle.edge_run.specs.declared.outcome.Outcome.TheVariants as outcome
@@ -16,6 +16,7 @@ untold (outcome.WriteFault c) = None
 untold (outcome.SchemaRefused r) = Some (Schema r)
 untold (outcome.DataRefused b) = Some (Data b)
 untold (outcome.QueryRefused r) = Some (Query r)
+untold (outcome.ArgsRefused b) = Some (Args b)
 untold (outcome.RunFault f) = None
 untold outcome.Memory = None
 
@@ -26,6 +27,7 @@ untold_told (TooLong d) = refl
 untold_told (Schema r) = refl
 untold_told (Data b) = refl
 untold_told (Query r) = refl
+untold_told (Args b) = refl
 
 some_is : (x y : Refusal) → ◌≡◌ {A = Option Refusal} (Some x) (Some y) → x ≡ y
 some_is x y e = cc

@@ -1,11 +1,11 @@
 -- What words ask for, and the plan of these words.
-use Rattle.std.proofs.Common.{◌≡◌, ◌≢◌, ℕ, List, [], ◌∷◌, Option, Some, None, ◌⊎◌, inl, inr, Bool, true, false, codes, refl, sym, ap, ◌∙◌, subst, rules}
+use Rattle.std.proofs.Common.{◌≡◌, ◌≢◌, ℕ, List, [], ◌∷◌, Option, Some, None, ◌⊎◌, inl, inr, Bool, true, false, codes, refl, sym, ap, ◌∙◌, rules}
 use Rattle.std.specs.Str.{bytes_eq}
 use Rattle.std.proofs.lemmas.Slice.Eq.{bytes_eq-Decides}
-use Rattle.edge_run.specs.Modes.{mode_plan, plan_of, const_plan, check_plan}
-use Rattle.edge_run.specs.Plan.{Plan, Refuse}
+use Rattle.edge_run.specs.Modes.{mode_plan, plan_of, const_plan, check_plan, run_plan}
+use Rattle.edge_run.specs.Plan.{Refuse}
 use Rattle.edge_run.specs.Refusal.{Usage}
-use Rattle.edge_run.specs.Task.{Task, Const, Check, Asks, FailsUsage, words_of}
+use Rattle.edge_run.specs.Task.{Task, Const, Check, Run, Asks, FailsUsage, words_of}
 use Rattle.edge_run.specs.declared.outcome.UsageRule.{UsageRule}
 use Rattle.edge_run.specs.declared.outcome.UsageRule.TheVariants as rule
 use Rattle.edge_run.proofs.TaskLaws.{plan_for}
@@ -30,26 +30,35 @@ eq_false a b other = by (bytes_eq a b) refl
 
 -- ---- the plan of a mode
 
-const_mode : (schema_name data_name query : List ℕ) → mode_plan (codes "const") schema_name data_name query ≡ const_plan query
-const_mode schema_name data_name query = refl
+const_mode : (schema_name data_name query : List ℕ) (args : Option (List ℕ)) → mode_plan (codes "const") schema_name data_name query args ≡ const_plan query
+const_mode schema_name data_name query args = refl
 
-check_mode : (schema_name data_name query : List ℕ) → mode_plan (codes "check") schema_name data_name query ≡ check_plan schema_name data_name
-check_mode schema_name data_name query = refl
+check_mode : (schema_name data_name query : List ℕ) (args : Option (List ℕ))
+    → mode_plan (codes "check") schema_name data_name query args ≡ check_plan schema_name data_name
+check_mode schema_name data_name query args = refl
 
-no_mode : (mode schema_name data_name query : List ℕ) → mode ≢ codes "const" → mode ≢ codes "check" → mode_plan mode schema_name data_name query ≡ Refuse (Usage rule.U2)
-no_mode mode schema_name data_name query no_const no_check = rw (eq_false mode (codes "const") no_const) (rw (eq_false mode (codes "check") no_check) refl)
+run_mode : (schema_name data_name query : List ℕ) (args : Option (List ℕ))
+    → mode_plan (codes "run") schema_name data_name query args ≡ run_plan schema_name data_name query args
+run_mode schema_name data_name query args = refl
+
+no_mode : (mode schema_name data_name query : List ℕ) (args : Option (List ℕ)) → mode ≢ codes "const" → mode ≢ codes "check" → mode ≢ codes "run"
+    → mode_plan mode schema_name data_name query args ≡ Refuse (Usage rule.U2)
+no_mode mode schema_name data_name query args no_const no_check no_run =
+    rw (eq_false mode (codes "const") no_const) (rw (eq_false mode (codes "check") no_check) (rw (eq_false mode (codes "run") no_run) refl))
 
 -- the plan of words of the right form is that of their mode
 formed_plan : (mode schema_name data_name query : List ℕ) (args : Option (List ℕ))
-    → plan_of (words_of mode schema_name data_name query args) ≡ mode_plan mode schema_name data_name query
+    → plan_of (words_of mode schema_name data_name query args) ≡ mode_plan mode schema_name data_name query args
 formed_plan mode schema_name data_name query None = refl
 formed_plan mode schema_name data_name query (Some args) = refl
 
 pub task_plan : (words : List (List ℕ)) (t : Task) → Asks words t → plan_of words ≡ plan_for t
 task_plan words (Const query) (schema_name, data_name, args, are) =
-    ap plan_of are ∙ formed_plan (codes "const") schema_name data_name query args ∙ const_mode schema_name data_name query
+    ap plan_of are ∙ formed_plan (codes "const") schema_name data_name query args ∙ const_mode schema_name data_name query args
 task_plan words (Check schema_name data_name) (query, args, are) =
-    ap plan_of are ∙ formed_plan (codes "check") schema_name data_name query args ∙ check_mode schema_name data_name query
+    ap plan_of are ∙ formed_plan (codes "check") schema_name data_name query args ∙ check_mode schema_name data_name query args
+task_plan words (Run schema_name data_name query args) are =
+    ap plan_of are ∙ formed_plan (codes "run") schema_name data_name query args ∙ run_mode schema_name data_name query args
 
 -- ---- the words fail a rule, or ask for a task
 
@@ -90,25 +99,28 @@ usage_plan words rule.U1 fails = elim (form words) [
   | inl formed ↦ absurd (fails formed.0 formed.1 formed.2 formed.3 formed.4 formed.5)
   | inr unformed ↦ unformed.1
 ]
-usage_plan words rule.U2 (mode, schema_name, data_name, query, args, are, no_const, no_check) =
-    ap plan_of are ∙ formed_plan mode schema_name data_name query args ∙ no_mode mode schema_name data_name query no_const no_check
+usage_plan words rule.U2 (mode, schema_name, data_name, query, args, are, no_const, no_check, no_run) =
+    ap plan_of are ∙ formed_plan mode schema_name data_name query args ∙ no_mode mode schema_name data_name query args no_const no_check no_run
 
 abbrev pub Asked : List (List ℕ) → Type 0
 Asked words = ((u : UsageRule) × FailsUsage u words) ⊎ ((t : Task) × Asks words t)
 
 of_mode : (words : List (List ℕ)) (mode schema_name data_name query : List ℕ) (args : Option (List ℕ)) → words ≡ words_of mode schema_name data_name query args
-    → (mode ≡ codes "const") ⊎ (mode ≢ codes "const") → (mode ≡ codes "check") ⊎ (mode ≢ codes "check") → Asked words
-of_mode words mode schema_name data_name query args are (inl e) check =
+    → (mode ≡ codes "const") ⊎ (mode ≢ codes "const") → (mode ≡ codes "check") ⊎ (mode ≢ codes "check") → (mode ≡ codes "run") ⊎ (mode ≢ codes "run") → Asked words
+of_mode words mode schema_name data_name query args are (inl e) check run =
     inr (Const query, (schema_name, data_name, args, are ∙ ap (λ m. words_of m schema_name data_name query args) e))
-of_mode words mode schema_name data_name query args are (inr no_const) (inl e) =
+of_mode words mode schema_name data_name query args are (inr no_const) (inl e) run =
     inr (Check schema_name data_name, (query, args, are ∙ ap (λ m. words_of m schema_name data_name query args) e))
-of_mode words mode schema_name data_name query args are (inr no_const) (inr no_check) =
-    inl (rule.U2, (mode, schema_name, data_name, query, args, are, no_const, no_check))
+of_mode words mode schema_name data_name query args are (inr no_const) (inr no_check) (inl e) =
+    inr (Run schema_name data_name query args, are ∙ ap (λ m. words_of m schema_name data_name query args) e)
+of_mode words mode schema_name data_name query args are (inr no_const) (inr no_check) (inr no_run) =
+    inl (rule.U2, (mode, schema_name, data_name, query, args, are, no_const, no_check, no_run))
 
 -- the words fail a rule, or ask for a task
 pub asked : (words : List (List ℕ)) → Asked words
 asked words = elim (form words) [
   | inl formed ↦
-    of_mode words formed.0 formed.1 formed.2 formed.3 formed.4 formed.5 (same_or_other formed.0 (codes "const")) (same_or_other formed.0 (codes "check"))
+      of_mode words formed.0 formed.1 formed.2 formed.3 formed.4 formed.5 (same_or_other formed.0 (codes "const")) (same_or_other formed.0 (codes "check"))
+      (same_or_other formed.0 (codes "run"))
   | inr unformed ↦ inl (rule.U1, unformed.0)
 ]

@@ -28,3 +28,4 @@ Decides schema text (Err (refused.TooLong d)) = (d ≡ doc.Data) × IsLong doc.D
 Decides schema text (Err (refused.Schema r)) = ⊥
 Decides schema text (Err (refused.Data broken)) = IsRefused schema text broken
 Decides schema text (Err (refused.Query r)) = ⊥
+Decides schema text (Err (refused.Args b)) = ⊥

@@ -15,6 +15,7 @@ unwritten_of (outcome.TooLong d) = outcome.WriteFault chan.Err
 unwritten_of (outcome.WriteFault c) = outcome.WriteFault chan.Err
 unwritten_of (outcome.SchemaRefused r) = outcome.WriteFault chan.Err
 unwritten_of (outcome.DataRefused b) = outcome.WriteFault chan.Err
+unwritten_of (outcome.ArgsRefused b) = outcome.WriteFault chan.Err
 unwritten_of (outcome.QueryRefused r) = outcome.WriteFault chan.Err
 unwritten_of (outcome.RunFault f) = outcome.WriteFault chan.Err
 unwritten_of outcome.Memory = outcome.Memory

@@ -1,14 +1,16 @@
 -- What is due for a task, over what the names hold.
-use Rattle.std.specs.Prelude.{◌≡◌, ◌≢◌, ℕ, List, [], Option, Some, None, Result, Ok, Err}
+use Rattle.std.specs.Prelude.{◌≡◌, ◌≢◌, ℕ, List, [], Option, Some, None, Result, Ok, Err, codes}
 use Rattle.const_ir.specs.Meaning.{items}
 use Rattle.ev_value.specs.Item.{faults, values}
+use Rattle.ev_schema.specs.declared.schema.Schema.{Schema}
+use Rattle.ev_value.specs.declared.args.Args.{Args}
 use Rattle.ev_value.specs.declared.item.Item.{Item}
 use Rattle.ev_value.specs.declared.value.Val.{Val}
-use Rattle.edge_run.specs.Judgement.{Judgement, AsSchema, AsData, AsConst, Matter, Decides, doc_of}
-use Rattle.edge_run.specs.Modes.{answer_text, census}
+use Rattle.edge_run.specs.Judgement.{Judgement, AsSchema, AsData, AsQuery, AsArgs, AsConst, Matter, Decides, doc_of}
+use Rattle.edge_run.specs.Modes.{answer_text, census, items_over}
 use Rattle.edge_run.specs.Plan.{Verdict, Answers, Refuses, Faults, Missing}
 use Rattle.edge_run.specs.Refusal.{Refusal}
-use Rattle.edge_run.specs.Task.{Task, Const, Check}
+use Rattle.edge_run.specs.Task.{Task, Const, Check, Run}
 
 -- what is due over what was accepted; or what was refused is told
 abbrev pub OfDecision : {A : Type 0} → Result A Refusal → (A → Verdict (List ℕ) → Type 0) → Verdict (List ℕ) → Type 0
@@ -31,8 +33,16 @@ OfItems xs (Faults fs) = (fs ≡ faults xs) × (fs ≢ [])
 OfItems xs (Refuses r) = ⊥
 OfItems xs (Missing d) = ⊥
 
+-- what is due of arguments: of those that a name holds, or of none where there is no name
+abbrev pub OfArgs : Schema → (List ℕ → Option (List ℕ)) → Option (List ℕ) → (Args → Verdict (List ℕ) → Type 0) → Verdict (List ℕ) → Type 0
+OfArgs schema files None next v = OfText (AsArgs schema) (codes "{}") next v
+OfArgs schema files (Some name) next v = OfDocument (AsArgs schema) (files name) next v
+
 -- What is due, document by document in the order in which they are read: a later one counts only once the earlier were accepted.
 abbrev pub Due : Task → (List ℕ → Option (List ℕ)) → Verdict (List ℕ) → Type 0
 Due (Const query) files v = OfDocument AsConst (files query) (λ tree. OfItems (items tree)) v
 Due (Check schema_name data_name) files v =
     OfDocument AsSchema (files schema_name) (λ schema. OfDocument (AsData schema) (files data_name) (λ store w. w ≡ Answers (census schema store))) v
+Due (Run schema_name data_name query_name args_name) files v =
+    OfDocument AsSchema (files schema_name) (λ schema. OfDocument (AsData schema) (files data_name) (λ store. OfDocument (AsQuery schema) (files query_name)
+    (λ query. OfArgs schema files args_name (λ args. OfItems (items_over schema store query args))))) v

@@ -1,5 +1,5 @@
 -- The headline, in its own words: what a run says of the documents that its words name.
-use Rattle.std.specs.Prelude.{◌≡◌, ℕ, List, Option, Some, ◌⊎◌, Contains}
+use Rattle.std.specs.Prelude.{◌≡◌, ℕ, List, ◌⊎◌, Contains}
 use Rattle.ev_io.specs.Count.{Rose}
 use Rattle.ev_io.specs.Shelf.{ShelfView}
 use Rattle.ev_io.specs.Sink.{SinkView, PutTakes, PutFails}
@@ -8,7 +8,7 @@ use Rattle.edge_run.specs.Due.{Due}
 use Rattle.edge_run.specs.Ends.{ComesTo, Serves}
 use Rattle.edge_run.specs.Outcome.{line_of}
 use Rattle.edge_run.specs.Plan.{Verdict, Answers, Refuses, Faults}
-use Rattle.edge_run.specs.Refusal.{Refusal, TooLong, Schema, Data, Query}
+use Rattle.edge_run.specs.Refusal.{Refusal, TooLong, Schema, Data, Query, Args}
 use Rattle.edge_run.specs.Run.{Over}
 use Rattle.edge_run.specs.Task.{Task, Asks, FailsUsage, Reads, Tells}
 use Rattle.edge_run.specs.declared.outcome.Chan.TheVariants as chan
@@ -39,6 +39,7 @@ module _ (words : List (List ℕ)) (shelf shelf' : ShelfView) where
   IsCauseOf (outcome.TooLong d) = IsRefusal (TooLong d)
   IsCauseOf (outcome.SchemaRefused r) = IsRefusal (Schema r)
   IsCauseOf (outcome.DataRefused b) = IsRefusal (Data b)
+  IsCauseOf (outcome.ArgsRefused b) = IsRefusal (Args b)
   IsCauseOf (outcome.QueryRefused r) = IsRefusal (Query r)
   IsCauseOf (outcome.RunFault f) = (t : Task) × Asks words t × Over shelf (λ files. (fs : List Fault) × Due t files (Faults fs) × Contains fs f)
   IsCauseOf outcome.Memory = ⊥
@@ -61,6 +62,7 @@ module _ (words : List (List ℕ)) (shelf shelf' : ShelfView) (out out' err err'
   IsHeadline (outcome.TooLong d) = IsLine (outcome.TooLong d)
   IsHeadline (outcome.SchemaRefused r) = IsLine (outcome.SchemaRefused r)
   IsHeadline (outcome.DataRefused b) = IsLine (outcome.DataRefused b)
+  IsHeadline (outcome.ArgsRefused b) = IsLine (outcome.ArgsRefused b)
   IsHeadline (outcome.QueryRefused r) = IsLine (outcome.QueryRefused r)
   IsHeadline (outcome.RunFault f) = IsLine (outcome.RunFault f)
 

@@ -1,3 +1,4 @@
+pub mod Args
 pub mod Data
 pub mod Deliver
 pub mod Due

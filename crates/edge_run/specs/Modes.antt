@@ -2,18 +2,24 @@
 use Rattle.std.specs.Prelude.{◌≡◌, ℕ, ◌+◌, if◌then◌else◌, List, [], ◌∷◌, ◌++◌, length, Option, Some, None, codes, decimal}
 use Rattle.std.specs.Str.{bytes_eq}
 use Rattle.const_ir.specs.Meaning.{items}
+use Rattle.core_ir.specs.declared.tree.Scope.{Scope}
+use Rattle.eql_sem.specs.Forms.{strip}
+use Rattle.eql_sem.specs.Parts.{items_in}
 use Rattle.ev_schema.specs.declared.schema.Schema.{Schema}
 use Rattle.ev_value.specs.Item.{has_fault, faults, values}
 use Rattle.ev_value.specs.JsonText.{json_text}
+use Rattle.ev_value.specs.declared.args.Args.{Args}
 use Rattle.ev_value.specs.Nested.{answer_form}
 use Rattle.ev_value.specs.declared.item.Fault.{Fault}
 use Rattle.ev_value.specs.declared.item.Item.{Item}
 use Rattle.ev_value.specs.declared.value.Val.{Val}
 use Rattle.store_check.specs.declared.store.Store.{Store}
-use Rattle.edge_run.specs.Judgement.{Judgement, AsSchema, AsData, AsConst, Matter, doc_of}
+use Rattle.store_world.specs.StoreWorld.{world_of}
+use Rattle.store_world.specs.View.{view_of}
+use Rattle.edge_run.specs.Judgement.{Judgement, AsSchema, AsData, AsQuery, AsArgs, AsConst, Matter, doc_of}
 use Rattle.edge_run.specs.Limits.{limit_of}
 use Rattle.edge_run.specs.Plan.{Plan, Answer, Refuse, Fail, Read, Judge, ◌>>=◌, ruled}
-use Rattle.edge_run.specs.Refusal.{Refusal, Usage}
+use Rattle.edge_run.specs.Refusal.{Usage}
 use Rattle.edge_run.specs.declared.outcome.Doc.{Doc}
 use Rattle.edge_run.specs.declared.outcome.UsageRule.TheVariants as rule
 
@@ -54,15 +60,42 @@ counted_plan schema name = judged_document (AsData schema) name >>= (λ store. A
 unfoldable pub check_plan : List ℕ → List ℕ → Plan (List ℕ)
 check_plan schema_name data_name = judged_document AsSchema schema_name >>= (λ schema. counted_plan schema data_name)
 
--- the mode, over the names of a schema, of data and of a query
-abbrev pub mode_plan : List ℕ → List ℕ → List ℕ → List ℕ → Plan (List ℕ)
-mode_plan mode schema_name data_name query =
-    if bytes_eq mode (codes "const") then const_plan query
-    else (if bytes_eq mode (codes "check") then check_plan schema_name data_name else Refuse (Usage rule.U2))
+-- the values of a query over the objects that the caller sees; the queries that are built have no shapes, so that an item's form is its
+-- value
+unfoldable pub items_over : Schema → Store → Scope → Args → List (Item Val)
+items_over schema store query args = strip (items_in (world_of schema (view_of schema store.objects args) args) query.body [] [])
+
+-- the arguments: those of a document, or none where it is not named
+unfoldable pub args_plan : Schema → Option (List ℕ) → Plan Args
+args_plan schema None = Judge (AsArgs schema) (codes "{}") ruled
+args_plan schema (Some name) = judged_document (AsArgs schema) name
+
+-- a query, once schema, objects and the tree are known
+unfoldable pub answered_plan : Schema → Store → Scope → Option (List ℕ) → Plan (List ℕ)
+answered_plan schema store query args_name = args_plan schema args_name >>= (λ args. answered (items_over schema store query args))
+
+-- the same, once schema and objects are known
+unfoldable pub queried_plan : Schema → Store → List ℕ → Option (List ℕ) → Plan (List ℕ)
+queried_plan schema store query_name args_name = judged_document (AsQuery schema) query_name >>= (λ query. answered_plan schema store query args_name)
+
+-- the same, once the schema is known
+unfoldable pub stored_plan : Schema → List ℕ → List ℕ → Option (List ℕ) → Plan (List ℕ)
+stored_plan schema data_name query_name args_name = judged_document (AsData schema) data_name >>= (λ store. queried_plan schema store query_name args_name)
+
+-- mode `run`: the schema, the data, the query and the arguments
+unfoldable pub run_plan : List ℕ → List ℕ → List ℕ → Option (List ℕ) → Plan (List ℕ)
+run_plan schema_name data_name query_name args_name = judged_document AsSchema schema_name >>= (λ schema. stored_plan schema data_name query_name args_name)
+
+-- the mode, over the names of a schema, of data, of a query and of arguments
+abbrev pub mode_plan : List ℕ → List ℕ → List ℕ → List ℕ → Option (List ℕ) → Plan (List ℕ)
+mode_plan mode schema_name data_name query_name args_name =
+    if bytes_eq mode (codes "const") then const_plan query_name
+    else (if bytes_eq mode (codes "check") then check_plan schema_name data_name
+    else (if bytes_eq mode (codes "run") then run_plan schema_name data_name query_name args_name else Refuse (Usage rule.U2)))
 
 -- the words MODE, SCHEMA, DATA and QUERY, and behind them nothing, or `--args` and one word
 abbrev pub plan_of : List (List ℕ) → Plan (List ℕ)
-plan_of (mode ∷ schema_name ∷ data_name ∷ query ∷ []) = mode_plan mode schema_name data_name query
-plan_of (mode ∷ schema_name ∷ data_name ∷ query ∷ option ∷ args ∷ []) =
-    if bytes_eq option (codes "--args") then mode_plan mode schema_name data_name query else Refuse (Usage rule.U1)
+plan_of (mode ∷ schema_name ∷ data_name ∷ query_name ∷ []) = mode_plan mode schema_name data_name query_name None
+plan_of (mode ∷ schema_name ∷ data_name ∷ query_name ∷ option ∷ args_name ∷ []) =
+    if bytes_eq option (codes "--args") then mode_plan mode schema_name data_name query_name (Some args_name) else Refuse (Usage rule.U1)
 plan_of _ = Refuse (Usage rule.U1)

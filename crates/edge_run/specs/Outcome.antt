@@ -1,9 +1,12 @@
 -- What a run's end is told by: its exit status and its line on standard error.
-use Rattle.std.specs.Prelude.{ℕ, List, [], ◌∷◌, ◌++◌, Option, Some, None, codes, decimal}
+use Rattle.std.specs.Prelude.{ℕ, Bool, true, false, List, [], ◌++◌, Option, Some, None, codes, decimal}
 use Rattle.exact.specs.declared.rule.Rule.{Rule}
 use Rattle.exact.specs.declared.rule.Rule.TheVariants.{Unexpected, TooDeep}
 use Rattle.ev_value.specs.Item.{fault_number}
 use Rattle.ev_value.specs.declared.item.Fault.{Fault}
+use Rattle.args_load.specs.declared.refusal.ArgsRule.{ArgsRule}
+use Rattle.args_load.specs.declared.refusal.ArgsRule.TheVariants as args_rule
+use Rattle.args_load.specs.declared.refusal.BrokenArgs.{BrokenArgs}
 use Rattle.obj_draft.specs.declared.refusal.Broken.{Broken}
 use Rattle.obj_draft.specs.declared.refusal.Rule as of_data
 use Rattle.obj_draft.specs.declared.refusal.Rule.TheVariants as data_rule
@@ -28,6 +31,7 @@ status_of (outcome.ReadFault d) = 3
 status_of (outcome.WriteFault c) = 4
 status_of (outcome.SchemaRefused r) = 5
 status_of (outcome.DataRefused b) = 6
+status_of (outcome.ArgsRefused b) = 7
 status_of (outcome.QueryRefused r) = 8
 status_of (outcome.RunFault f) = 9
 status_of outcome.Memory = 10
@@ -126,6 +130,23 @@ query_line_of (refusal.Lex byte) = byte_line_of (codes "query S1") byte
 query_line_of (refusal.Syntax rule token) = token_line_of (query_syntax_of rule) token
 query_line_of refusal.Unbuilt = codes "query unbuilt\n"
 
+-- the names of the rules on arguments
+abbrev pub args_rule_of : ArgsRule → List ℕ
+args_rule_of args_rule.A1 = codes "args A1"
+args_rule_of args_rule.A2 = codes "args A2"
+args_rule_of args_rule.A3 = codes "args A3"
+args_rule_of args_rule.A4 = codes "args A4"
+
+-- a rule on arguments that fails, whether it is told of a global, and the name: that of a parameter stands behind `$`
+abbrev pub named_line_of : List ℕ → Bool → Option (List ℕ) → List ℕ
+named_line_of rule global None = rule ++ codes "\n"
+named_line_of rule true (Some name) = rule ++ codes " global " ++ name ++ codes "\n"
+named_line_of rule false (Some name) = rule ++ codes " $" ++ name ++ codes "\n"
+
+-- the line of arguments that are refused
+abbrev pub args_line_of : BrokenArgs → List ℕ
+args_line_of broken = named_line_of (args_rule_of broken.rule) broken.global broken.name
+
 -- the line of a fault in the answer: its number in decimal
 abbrev pub fault_line_of : Fault → List ℕ
 fault_line_of f = codes "run fault " ++ decimal (fault_number f) ++ codes "\n"
@@ -139,6 +160,7 @@ line_of (outcome.WriteFault c) = []
 line_of (outcome.TooLong d) = long_line_of d
 line_of (outcome.SchemaRefused r) = schema_line_of r
 line_of (outcome.DataRefused b) = data_line_of b
+line_of (outcome.ArgsRefused b) = args_line_of b
 line_of (outcome.QueryRefused r) = query_line_of r
 line_of (outcome.RunFault f) = fault_line_of f
 line_of outcome.Memory = codes "memory\n"

@@ -1,6 +1,5 @@
 -- What a run reads and decides, in its order.
-use Rattle.std.specs.Prelude.{◌≡◌, ℕ, List, [], ◌∷◌, take, Option, Some, None, Result, Ok, Err, ◌⊎◌, Bool, true, false, Contains}
-use Rattle.ev_io.specs.Count.{Rose}
+use Rattle.std.specs.Prelude.{◌≡◌, ℕ, List, [], ◌∷◌, take, Option, Some, None, Result, Ok, Err, ◌⊎◌, true, false, Contains}
 use Rattle.ev_io.specs.Shelf.{Call, call_of, ShelfView, Quiet, ReadGives, ReadFails}
 use Rattle.ev_value.specs.declared.item.Fault.{Fault}
 use Rattle.edge_run.specs.Judgement.{Judgement, Matter, Decides}

@@ -1,8 +1,6 @@
--- Which texts are queries, which of them are built over no schema, and why the others are refused.
+-- Which texts are queries, which of them are built, and why the others are refused. What is built is given: over no schema, or over one.
 use Rattle.std.specs.Prelude.{◌≡◌, ℕ, List, Result, Ok, Err, Option, Some, None, ◌⊎◌}
 use Rattle.ast.specs.declared.statement.Query.{Query}
-use Rattle.const_build.specs.Built.{built_query}
-use Rattle.const_ir.specs.declared.expr.Expr.{Expr}
 use Rattle.eql_grammar.specs.Promise.{QueryText}
 use Rattle.eql_grammar.specs.Promise as grammar
 use Rattle.ev_lex.specs.Reading.{IsCut}
@@ -23,39 +21,46 @@ use Rattle.edge_run.specs.declared.outcome.QueryRefusal.TheVariants as refusal
 abbrev pub IsQuery : List ℕ → Query → Type 0
 IsQuery text query = (tokens : List Token) × IsCut text tokens × grammar.IsQuery tokens query
 
--- the text is not too long and spells a surface tree, which is built as this tree
-pub record IsBuilt (text : List ℕ) (tree : Expr) : Type 0 where
-  pub short : IsShort doc.Query text
-  pub surface : Query
-  pub spelled : IsQuery text surface
-  pub built : built_query surface ≡ Some tree
+-- why a text spells no surface tree: with this byte no token begins; by this rule the grammar refuses this token
+abbrev pub IsUnread : List ℕ → QueryRefusal → Type 0
+IsUnread text (refusal.Lex byte) = lexical.IsRefused text byte
+IsUnread text (refusal.Syntax rule token) = (tokens : List Token) × IsCut text tokens × exact.IsRefused QueryText tokens rule token
+IsUnread text refusal.Unbuilt = ⊥
 
--- Why a text is refused: with this byte no token begins; by this rule the grammar refuses this token; it spells a surface tree
--- that is not built.
-abbrev pub IsReason : List ℕ → QueryRefusal → Type 0
-IsReason text (refusal.Lex byte) = lexical.IsRefused text byte
-IsReason text (refusal.Syntax rule token) = (tokens : List Token) × IsCut text tokens × exact.IsRefused QueryText tokens rule token
-IsReason text refusal.Unbuilt = (surface : Query) × IsQuery text surface × (built_query surface ≡ None)
+module _ {A : Type 0} (build : Query → Option A) where
+  -- the text is not too long and spells a surface tree, which is built as this tree
+  pub record IsBuilt (text : List ℕ) (tree : A) : Type 0 where
+    pub short : IsShort doc.Query text
+    pub surface : Query
+    pub spelled : IsQuery text surface
+    pub built : build surface ≡ Some tree
 
--- the text is not too long, and is refused for this reason
-pub record IsRefused (text : List ℕ) (r : QueryRefusal) : Type 0 where
-  pub short : IsShort doc.Query text
-  pub reason : IsReason text r
+  -- why a text is refused: it spells no surface tree, or one that is not built
+  abbrev pub IsReason : List ℕ → QueryRefusal → Type 0
+  IsReason text (refusal.Lex byte) = IsUnread text (refusal.Lex byte)
+  IsReason text (refusal.Syntax rule token) = IsUnread text (refusal.Syntax rule token)
+  IsReason text refusal.Unbuilt = (surface : Query) × IsQuery text surface × (build surface ≡ None)
 
--- what the rules of query texts decide: the tree, or a refusal
-abbrev pub Decides : List ℕ → Result Expr Refusal → Type 0
-Decides text (Ok tree) = IsBuilt text tree
-Decides text (Err (refused.Usage u)) = ⊥
-Decides text (Err (refused.TooLong d)) = (d ≡ doc.Query) × IsLong doc.Query text
-Decides text (Err (refused.Schema r)) = ⊥
-Decides text (Err (refused.Data b)) = ⊥
-Decides text (Err (refused.Query r)) = IsRefused text r
+  -- the text is not too long, and is refused for this reason
+  pub record IsRefused (text : List ℕ) (r : QueryRefusal) : Type 0 where
+    pub short : IsShort doc.Query text
+    pub reason : IsReason text r
+
+  -- what the rules of query texts decide: the tree, or a refusal
+  abbrev pub Decides : List ℕ → Result A Refusal → Type 0
+  Decides text (Ok tree) = IsBuilt text tree
+  Decides text (Err (refused.Usage u)) = ⊥
+  Decides text (Err (refused.TooLong d)) = (d ≡ doc.Query) × IsLong doc.Query text
+  Decides text (Err (refused.Schema r)) = ⊥
+  Decides text (Err (refused.Data b)) = ⊥
+  Decides text (Err (refused.Args b)) = ⊥
+  Decides text (Err (refused.Query r)) = IsRefused text r
 
 -- ---- what the code answers
 
--- memory ran out, or a reason why the text is refused is told
+-- memory ran out, or a reason why the text spells no surface tree is told
 abbrev pub IsTold : List ℕ → Outcome → Type 0
-IsTold text o = (o ≡ outcome.Memory) ⊎ ((r : QueryRefusal) × IsReason text r × (o ≡ outcome.QueryRefused r))
+IsTold text o = (o ≡ outcome.Memory) ⊎ ((r : QueryRefusal) × IsUnread text r × (o ≡ outcome.QueryRefused r))
 
 -- the tokens of the text, or what is told in their place
 abbrev pub IsTokens : List ℕ → Result (List Token) Outcome → Type 0
@@ -74,6 +79,6 @@ IsSurface text (Ok query) = IsQuery text query
 IsSurface text (Err o) = IsTold text o
 
 -- the tree of a surface tree, or that it is not built
-abbrev pub IsTree : Option Expr → Result Expr Outcome → Type 0
+abbrev pub IsTree : {A : Type 0} → Option A → Result A Outcome → Type 0
 IsTree due (Ok tree) = due ≡ Some tree
 IsTree due (Err o) = (o ≡ outcome.Memory) ⊎ ((due ≡ None) × (o ≡ outcome.QueryRefused refusal.Unbuilt))

@@ -1,4 +1,5 @@
 -- What written rules refuse.
+use Rattle.args_load.specs.declared.refusal.BrokenArgs.{BrokenArgs}
 use Rattle.obj_draft.specs.declared.refusal.Broken.{Broken}
 use Rattle.edge_run.specs.declared.outcome.Doc.{Doc}
 use Rattle.edge_run.specs.declared.outcome.UsageRule.{UsageRule}
@@ -14,6 +15,7 @@ pub data Refusal : Type 0 where
   Schema : SchemaRefusal → Refusal
   Data : Broken → Refusal
   Query : QueryRefusal → Refusal
+  Args : BrokenArgs → Refusal
 
 -- the end that tells a refusal
 abbrev pub told : Refusal → Outcome
@@ -22,3 +24,4 @@ told (TooLong d) = outcome.TooLong d
 told (Schema r) = outcome.SchemaRefused r
 told (Data b) = outcome.DataRefused b
 told (Query r) = outcome.QueryRefused r
+told (Args b) = outcome.ArgsRefused b

@@ -1,5 +1,5 @@
 -- A run of the top call: the walk through a plan, and the delivery of its answer. From it follows what each end says.
-use Rattle.std.specs.Prelude.{◌≡◌, ℕ, List, [], ◌∷◌, ◌++◌, Option, Some, option_map, Result, Ok, Err, ◌⊎◌, Contains}
+use Rattle.std.specs.Prelude.{◌≡◌, ℕ, List, ◌++◌, Option, Some, option_map, Result, ◌⊎◌, Contains}
 use Rattle.ev_io.specs.Count.{Rose}
 use Rattle.ev_io.specs.Shelf.{Call, ShelfView}
 use Rattle.ev_io.specs.Sink.{SinkView, PutTakes, PutFails}
@@ -8,7 +8,7 @@ use Rattle.edge_run.specs.Deliver.{Delivers}
 use Rattle.edge_run.specs.Ends.{ComesTo, Serves}
 use Rattle.edge_run.specs.Outcome.{line_of}
 use Rattle.edge_run.specs.Plan.{Plan, Goes, Along, MayRefuse, MayRead, Comes, Verdict, Answers, Refuses, Faults}
-use Rattle.edge_run.specs.Refusal.{Refusal, Usage, TooLong, Schema, Data, Query, told}
+use Rattle.edge_run.specs.Refusal.{Refusal, Usage, TooLong, Schema, Data, Query, Args}
 use Rattle.edge_run.specs.declared.outcome.Chan.TheVariants as chan
 use Rattle.edge_run.specs.declared.outcome.Doc.{Doc}
 use Rattle.edge_run.specs.declared.outcome.Outcome.{Outcome}
@@ -38,6 +38,7 @@ module _ (plan : Plan (List ℕ)) (shelf shelf' : ShelfView) (out out' err err' 
   IsDue (outcome.WriteFault c) = ⊥
   IsDue (outcome.SchemaRefused r) = IsRefusalDue (Schema r)
   IsDue (outcome.DataRefused b) = IsRefusalDue (Data b)
+  IsDue (outcome.ArgsRefused b) = IsRefusalDue (Args b)
   IsDue (outcome.QueryRefused r) = IsRefusalDue (Query r)
   IsDue (outcome.RunFault f) = Over shelf (λ files. (fs : List Fault) × Comes files plan (Faults fs) × Contains fs f)
   IsDue outcome.Memory = ⊥
@@ -63,6 +64,7 @@ module _ (plan : Plan (List ℕ)) (shelf shelf' : ShelfView) (out out' err err' 
   IsCaused (outcome.TooLong d) = IsDue (outcome.TooLong d) × IsTold (outcome.TooLong d)
   IsCaused (outcome.SchemaRefused r) = IsDue (outcome.SchemaRefused r) × IsTold (outcome.SchemaRefused r)
   IsCaused (outcome.DataRefused b) = IsDue (outcome.DataRefused b) × IsTold (outcome.DataRefused b)
+  IsCaused (outcome.ArgsRefused b) = IsDue (outcome.ArgsRefused b) × IsTold (outcome.ArgsRefused b)
   IsCaused (outcome.QueryRefused r) = IsDue (outcome.QueryRefused r) × IsTold (outcome.QueryRefused r)
   IsCaused (outcome.RunFault f) = IsDue (outcome.RunFault f) × IsTold (outcome.RunFault f)
 

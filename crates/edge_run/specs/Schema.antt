@@ -51,6 +51,7 @@ Decides text (Err (refused.TooLong d)) = (d ≡ doc.Schema) × IsLong doc.Schema
 Decides text (Err (refused.Schema r)) = IsRefused text r
 Decides text (Err (refused.Data b)) = ⊥
 Decides text (Err (refused.Query r)) = ⊥
+Decides text (Err (refused.Args b)) = ⊥
 
 -- ---- what the code answers
 

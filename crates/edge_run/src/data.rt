@@ -1,26 +1,16 @@
 //! The text of data, decided: the store, or why it is refused.
-ghost use Rattle.std.specs.Prelude.{◌↔◌, ◌<◌, ◌^◌, IsTrue, length};
 ghost use Rattle.edge_run.specs.Judgement.{AsData, IsDecided};
 ghost use Rattle.edge_run.specs.Limits.{IsShort};
 
 use crate::document::limit;
 use crate::outcome::{Doc, Outcome};
+use crate::schema::is_numbered;
 use db_load::load;
 use ev_schema::Schema;
 use ev_value::Bytes;
 use obj_draft::DataRefusal;
 use std::alloc::Global;
 use store_check::Store;
-
-// Whether the types and the pointers have numbers of 32 bits, and there are pointers at all: `id` is one. A schema of a text that
-// is not too long is so.
-fn is_numbered(schema: &Schema) -> bool
-    ensures { IsTrue result ↔ (length schema.now.types < 2 ^ 32 × (0 < length schema.now.pointers × length schema.now.pointers < 2 ^ 32)) }
-{
-    schema.types.len() <= u32::MAX as usize
-        && !schema.pointers.is_empty()
-        && schema.pointers.len() <= u32::MAX as usize
-}
 
 // The store that a text writes.
 fn loaded(alloc: Global, schema: &Schema, text: &[u8]) -> Result<Store, Outcome>

@@ -1,10 +1,15 @@
 //! Laws of texts and of what runs come to.
 ghost use Rattle.std.specs.Prelude.{◌≡◌, ℕ, List, Option, Result};
 ghost use Rattle.ast.specs.declared.statement.Query.{Query};
+ghost use Rattle.ev_schema.specs.declared.schema.Schema.{Schema};
+ghost use Rattle.obj_store.specs.Fits.{Fits};
+ghost use Rattle.store_check.specs.declared.store.Store.{Store};
+ghost use Rattle.edge_run.specs.Data.{IsStore};
 ghost use Rattle.edge_run.specs.Judgement.{Judgement, Matter, Decides};
 ghost use Rattle.edge_run.specs.Plan.{Plan, Verdict, Comes};
 ghost use Rattle.edge_run.specs.Query.{IsQuery};
 ghost use Rattle.edge_run.specs.Refusal.{Refusal};
+ghost use Rattle.edge_run.specs.Schema.{IsBuilt};
 
 /// Each text spells at most one query.
 pub fn one_query()
@@ -19,4 +24,9 @@ pub fn one_decision()
 /// Over what the names hold, a run comes to at most one verdict.
 pub fn one_verdict()
     ensures { (plan : Plan (List ℕ)) (files : List ℕ → Option (List ℕ)) (v : Verdict (List ℕ)) (w : Verdict (List ℕ)) → Comes files plan v → Comes files plan w → v ≡ w }
+{}
+
+/// The objects of data that are accepted fit the schema that was accepted before them.
+pub fn accepted_objects_fit()
+    ensures { (schema_text : List ℕ) (data_text : List ℕ) (schema : Schema) (store : Store) → IsBuilt schema_text schema → IsStore schema data_text store → Fits schema store.objects }
 {}

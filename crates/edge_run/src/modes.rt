@@ -1,117 +1,24 @@
 //! The modes: from the words to an answer or another end, over a shelf.
-ghost use Rattle.std.specs.Prelude.{◌≡◌, IfOk, MatchResult};
-ghost use Rattle.ev_io.specs.Shelf.{ShelfView};
-ghost use Rattle.ev_value.specs.Item.{faults, values};
-ghost use Rattle.ev_value.specs.Nested.{answer_form as answer_form_of};
+ghost use Rattle.std.specs.Prelude.{◌≡◌, Some, None, IfOk};
+ghost use Rattle.std.specs.Option.{option_copied};
 ghost use Rattle.const_ir.specs.Meaning.{items};
-ghost use Rattle.edge_run.specs.Judgement.{AsSchema, AsData, AsConst};
+ghost use Rattle.ev_io.specs.Shelf.{ShelfView};
 ghost use Rattle.edge_run.specs.Plan.{Goes};
-ghost use Rattle.edge_run.specs.Modes.{judged_document, answered, answer_text as answer_text_of, census as census_of, IsFirst, const_plan, check_plan, counted_plan, mode_plan, plan_of};
+ghost use Rattle.edge_run.specs.Modes.{answered, census as census_of, items_over, const_plan, check_plan, counted_plan, run_plan, stored_plan, queried_plan, answered_plan, mode_plan, plan_of};
 
-use crate::data::decide_data;
-use crate::document::read;
+use crate::answers::{answer_of, without_memory};
 use crate::evaluate::evaluate;
-use crate::outcome::{Doc, Outcome, UsageRule};
-use crate::query::decide_query;
-use crate::schema::decide_schema;
+use crate::outcome::{Outcome, UsageRule};
+use crate::reading::{given_args, read_data, read_query, read_query_over, read_schema};
 use const_ir::Expr;
+use core_ir::Scope;
+use eql_sem::strip;
 use ev_io::Shelf;
 use ev_schema::Schema;
-use ev_value::{Bytes, Fault, Item, List, Nested, Text, Val};
-use shape_decode::text;
+use ev_value::{Args, Bytes, Item, List, Text};
 use std::alloc::{AllocError, Global};
 use store_check::Store;
-
-#[tactic(auto, unfolding(crate::specs::Modes::judged_document), using(crate::proofs::PlanLaws::then_ok, crate::proofs::PlanLaws::then_err, crate::proofs::PlanLaws::judged_goes))]
-fn read_query<H: Shelf>(alloc: Global, shelf: &mut H, name: &Text) -> Result<Expr, Outcome>
-    ensures { Goes (judged_document AsConst name.now) (H.seen shelf.old) result (H.seen shelf.new) }
-{
-    match read(shelf, Doc::Query, name) {
-        Ok(text) => decide_query(alloc, &text),
-        Err(outcome) => Err(outcome),
-    }
-}
-
-#[tactic(auto, unfolding(crate::specs::Modes::judged_document), using(crate::proofs::PlanLaws::then_ok, crate::proofs::PlanLaws::then_err, crate::proofs::PlanLaws::judged_goes))]
-fn read_schema<H: Shelf>(alloc: Global, shelf: &mut H, name: &Text) -> Result<Schema, Outcome>
-    ensures { Goes (judged_document AsSchema name.now) (H.seen shelf.old) result (H.seen shelf.new) }
-{
-    match read(shelf, Doc::Schema, name) {
-        Ok(text) => decide_schema(alloc, &text),
-        Err(outcome) => Err(outcome),
-    }
-}
-
-#[tactic(auto, unfolding(crate::specs::Modes::judged_document), using(crate::proofs::PlanLaws::then_ok, crate::proofs::PlanLaws::then_err, crate::proofs::PlanLaws::judged_goes))]
-fn read_data<H: Shelf>(
-    alloc: Global,
-    shelf: &mut H,
-    schema: &Schema,
-    name: &Text,
-) -> Result<Store, Outcome>
-    ensures { Goes (judged_document (AsData schema.now) name.now) (H.seen shelf.old) result (H.seen shelf.new) }
-{
-    match read(shelf, Doc::Data, name) {
-        Ok(text) => decide_data(alloc, schema, &text),
-        Err(outcome) => Err(outcome),
-    }
-}
-
-// Memory ran out while the answer was made: nothing more is told.
-fn without_memory<T>(made: Result<T, AllocError>) -> Result<T, Outcome>
-    ensures { MatchResult made (λ value. result ≡ Ok value) (λ _. result ≡ Err Outcome.Memory) }
-{
-    match made {
-        Ok(value) => Ok(value),
-        Err(_) => Err(Outcome::Memory),
-    }
-}
-
-// The first fault among the items.
-fn first_fault(items: &[Item]) -> Option<Fault>
-    ensures { IsFirst result (faults items.now) }
-{
-    for item in items {
-        if let Item::Fault(fault) = item {
-            return Some(*fault);
-        }
-    }
-    None
-}
-
-// The values among the items, as the form of an answer.
-fn answer_form(alloc: Global, items: &[Item]) -> Result<Nested, AllocError>
-    ensures { IfOk result (λ form. form ≡ answer_form_of (values items.now)) }
-{
-    let mut forms = List::new(alloc);
-    for item in items {
-        if let Item::Value(value) = item {
-            forms.push(Nested::Scalar(value.copied(alloc)?))?;
-        }
-    }
-    Ok(Nested::Array(forms))
-}
-
-// The text of an answer: the JSON array of the values, and a line feed.
-fn answer_text(alloc: Global, items: &[Item]) -> Result<Bytes, AllocError>
-    ensures { IfOk result (λ t. t ≡ answer_text_of (values items.now)) }
-{
-    let form = answer_form(alloc, items)?;
-    let mut answer = text(alloc, &form)?;
-    answer.push(b'\n')?;
-    Ok(answer)
-}
-
-// The answer that the items make, or their first fault.
-#[tactic(auto, unfolding(crate::specs::Modes::answered, crate::specs::Plan::Goes), using(crate::proofs::PlanLaws::quiet))]
-fn answer_of(alloc: Global, items: &[Item]) -> Result<Bytes, Outcome>
-    ensures { (shelf : ShelfView) → Goes (answered items.now) shelf result shelf }
-{
-    match first_fault(items) {
-        Some(fault) => Err(Outcome::RunFault(fault)),
-        None => without_memory(answer_text(alloc, items)),
-    }
-}
+use store_world::answer_over_view;
 
 // The answer of a query: its items, worked out and written.
 fn run_query(alloc: Global, query: &Expr) -> Result<Bytes, Outcome>
@@ -176,6 +83,110 @@ fn check_answer<H: Shelf>(
     }
 }
 
+// The values of a query over the objects that the caller sees.
+#[tactic(auto, unfolding(crate::specs::Modes::items_over))]
+fn values_over(
+    alloc: Global,
+    schema: &Schema,
+    store: &Store,
+    query: &Scope,
+    args: &Args,
+) -> Result<List<Item>, AllocError>
+    ensures { IfOk result (λ xs. xs ≡ items_over schema.now store.now query.now args.now) }
+{
+    let items = answer_over_view(alloc, schema, store.objects.as_slice(), args, query)?;
+    let values = strip(alloc, items.as_slice())?;
+    Ok(values)
+}
+
+// The answer of a query over the objects that the caller sees.
+fn answer_over(
+    alloc: Global,
+    schema: &Schema,
+    store: &Store,
+    query: &Scope,
+    args: &Args,
+) -> Result<Bytes, Outcome>
+    ensures { (shelf : ShelfView) → Goes (answered (items_over schema.now store.now query.now args.now)) shelf result shelf }
+{
+    match values_over(alloc, schema, store, query, args) {
+        Ok(items) => answer_of(alloc, items.as_slice()),
+        Err(_) => Err(Outcome::Memory),
+    }
+}
+
+// The answer of a query, once its arguments are known.
+#[tactic(auto, unfolding(crate::specs::Modes::answered_plan), using(crate::proofs::PlanLaws::then_ok, crate::proofs::PlanLaws::then_err))]
+fn with_args<H: Shelf>(
+    alloc: Global,
+    shelf: &mut H,
+    schema: &Schema,
+    store: &Store,
+    query: &Scope,
+    args: Option<&Text>,
+) -> Result<Bytes, Outcome>
+    ensures { Goes (answered_plan schema.now store.now query.now (option_copied args.entry)) (H.seen shelf.old) result (H.seen shelf.new) }
+{
+    match given_args(alloc, shelf, schema, args) {
+        Ok(args) => answer_over(alloc, schema, store, query, &args),
+        Err(outcome) => Err(outcome),
+    }
+}
+
+// The answer of a query over some objects.
+#[tactic(auto, unfolding(crate::specs::Modes::queried_plan), using(crate::proofs::PlanLaws::then_ok, crate::proofs::PlanLaws::then_err))]
+fn with_query<H: Shelf>(
+    alloc: Global,
+    shelf: &mut H,
+    schema: &Schema,
+    store: &Store,
+    query: &Text,
+    args: Option<&Text>,
+) -> Result<Bytes, Outcome>
+    ensures { Goes (queried_plan schema.now store.now query.now (option_copied args.entry)) (H.seen shelf.old) result (H.seen shelf.new) }
+{
+    match read_query_over(alloc, shelf, schema, query) {
+        Ok(tree) => with_args(alloc, shelf, schema, store, &tree, args),
+        Err(outcome) => Err(outcome),
+    }
+}
+
+// The answer of a query over the objects of a document.
+#[tactic(auto, unfolding(crate::specs::Modes::stored_plan), using(crate::proofs::PlanLaws::then_ok, crate::proofs::PlanLaws::then_err))]
+fn with_data<H: Shelf>(
+    alloc: Global,
+    shelf: &mut H,
+    schema: &Schema,
+    data: &Text,
+    query: &Text,
+    args: Option<&Text>,
+) -> Result<Bytes, Outcome>
+    ensures { Goes (stored_plan schema.now data.now query.now (option_copied args.entry)) (H.seen shelf.old) result (H.seen shelf.new) }
+{
+    match read_data(alloc, shelf, schema, data) {
+        Ok(store) => with_query(alloc, shelf, schema, &store, query, args),
+        Err(outcome) => Err(outcome),
+    }
+}
+
+// Mode `run`: the schema, the data, the query and the arguments.
+#[tactic(auto, unfolding(crate::specs::Modes::run_plan), using(crate::proofs::PlanLaws::then_ok, crate::proofs::PlanLaws::then_err))]
+fn run_answer<H: Shelf>(
+    alloc: Global,
+    shelf: &mut H,
+    schema: &Text,
+    data: &Text,
+    query: &Text,
+    args: Option<&Text>,
+) -> Result<Bytes, Outcome>
+    ensures { Goes (run_plan schema.now data.now query.now (option_copied args.entry)) (H.seen shelf.old) result (H.seen shelf.new) }
+{
+    match read_schema(alloc, shelf, schema) {
+        Ok(schema) => with_data(alloc, shelf, &schema, data, query, args),
+        Err(outcome) => Err(outcome),
+    }
+}
+
 #[tactic(auto, using(crate::proofs::PlanLaws::refused))]
 fn mode_answer<H: Shelf>(
     alloc: Global,
@@ -184,13 +195,16 @@ fn mode_answer<H: Shelf>(
     schema: &Text,
     data: &Text,
     query: &Text,
+    args: Option<&Text>,
 ) -> Result<Bytes, Outcome>
-    ensures { Goes (mode_plan mode.now schema.now data.now query.now) (H.seen shelf.old) result (H.seen shelf.new) }
+    ensures { Goes (mode_plan mode.now schema.now data.now query.now (option_copied args.entry)) (H.seen shelf.old) result (H.seen shelf.new) }
 {
     if mode.as_str() == "const" {
         const_answer(alloc, shelf, query)
     } else if mode.as_str() == "check" {
         check_answer(alloc, shelf, schema, data)
+    } else if mode.as_str() == "run" {
+        run_answer(alloc, shelf, schema, data, query, args)
     } else {
         Err(Outcome::Usage(UsageRule::U2))
     }
@@ -202,9 +216,9 @@ pub fn answer<H: Shelf>(alloc: Global, words: &[Text], shelf: &mut H) -> Result<
     ensures { Goes (plan_of words.now) (H.seen shelf.old) result (H.seen shelf.new) }
 {
     match words {
-        [mode, schema, data, query] => mode_answer(alloc, shelf, mode, schema, data, query),
-        [mode, schema, data, query, option, _args] if option.as_str() == "--args" => {
-            mode_answer(alloc, shelf, mode, schema, data, query)
+        [mode, schema, data, query] => mode_answer(alloc, shelf, mode, schema, data, query, None),
+        [mode, schema, data, query, option, args] if option.as_str() == "--args" => {
+            mode_answer(alloc, shelf, mode, schema, data, query, Some(args))
         }
         _ => Err(Outcome::Usage(UsageRule::U1)),
     }

@@ -1,7 +1,9 @@
 //! How a run ends.
 ghost use Rattle.std.specs.Prelude.{◌≡◌, IfOk};
-ghost use Rattle.edge_run.specs.Outcome.{status_of, line_of, usage_line_of, read_line_of, long_line_of, schema_line_of, schema_syntax_of, schema_rule_of, data_line_of, data_rule_of, earlier_of, objects_line_of, query_line_of, query_syntax_of, byte_line_of, token_line_of, fault_line_of};
+ghost use Rattle.std.specs.Option.{option_copied};
+ghost use Rattle.edge_run.specs.Outcome.{status_of, line_of, usage_line_of, read_line_of, long_line_of, schema_line_of, schema_syntax_of, schema_rule_of, data_line_of, data_rule_of, earlier_of, objects_line_of, query_line_of, query_syntax_of, args_line_of, args_rule_of, named_line_of, byte_line_of, token_line_of, fault_line_of};
 
+use args_load::{ArgsRule, BrokenArgs};
 use ev_value::{Fault, Text};
 use exact::Rule;
 use obj_draft::{Broken as BrokenData, Rule as DataRule};
@@ -58,7 +60,7 @@ pub enum QueryRefusal {
 }
 
 /// How a run ends.
-#[derive(Clone, Copy)]
+#[derive(Drop)]
 pub enum Outcome {
     /// The answer was written whole.
     Done,
@@ -72,6 +74,8 @@ pub enum Outcome {
     SchemaRefused(SchemaRefusal),
     /// This rule on data fails, at these objects.
     DataRefused(BrokenData),
+    /// This rule on arguments fails, at this name.
+    ArgsRefused(BrokenArgs),
     QueryRefused(QueryRefusal),
     /// The answer's items hold this fault.
     RunFault(Fault),
@@ -91,6 +95,7 @@ impl Outcome {
             Outcome::WriteFault(_) => 4,
             Outcome::SchemaRefused(_) => 5,
             Outcome::DataRefused(_) => 6,
+            Outcome::ArgsRefused(_) => 7,
             Outcome::QueryRefused(_) => 8,
             Outcome::RunFault(_) => 9,
             Outcome::Memory => 10,
@@ -109,6 +114,7 @@ impl Outcome {
             Outcome::TooLong(doc) => Text::from_str(alloc, long_line(*doc)),
             Outcome::SchemaRefused(refusal) => schema_line(alloc, *refusal),
             Outcome::DataRefused(broken) => data_line(alloc, *broken),
+            Outcome::ArgsRefused(broken) => args_line(alloc, broken),
             Outcome::QueryRefused(refusal) => query_line(alloc, *refusal),
             Outcome::RunFault(fault) => Text::from_str(alloc, fault_line(*fault)),
             Outcome::Memory => Text::from_str(alloc, memory_line()),
@@ -277,6 +283,50 @@ fn query_syntax(rule: Rule) -> &'static str
     match rule {
         Rule::Unexpected => "query S2",
         Rule::TooDeep => "query S3",
+    }
+}
+
+fn args_line(alloc: Global, broken: &BrokenArgs) -> Result<Text, AllocError>
+    ensures { IfOk result (λ line. line ≡ args_line_of broken.now) }
+{
+    named_line(
+        alloc,
+        args_rule(broken.rule),
+        broken.global,
+        broken.name.as_ref(),
+    )
+}
+
+/// The line of a rule on arguments that fails at a global or at a parameter, or of the text as a whole.
+fn named_line(
+    alloc: Global,
+    rule: &str,
+    global: bool,
+    name: Option<&Text>,
+) -> Result<Text, AllocError>
+    ensures { IfOk result (λ line. line ≡ named_line_of rule.now global (option_copied name.entry)) }
+{
+    let Some(name) = name else {
+        let line = format!(in alloc; "{rule}\n")?;
+        return Ok(Text::new(line));
+    };
+    let name = name.as_str();
+    let line = if global {
+        format!(in alloc; "{rule} global {name}\n")?
+    } else {
+        format!(in alloc; "{rule} ${name}\n")?
+    };
+    Ok(Text::new(line))
+}
+
+fn args_rule(rule: ArgsRule) -> &'static str
+    ensures { result.now ≡ args_rule_of rule }
+{
+    match rule {
+        ArgsRule::A1 => "args A1",
+        ArgsRule::A2 => "args A2",
+        ArgsRule::A3 => "args A3",
+        ArgsRule::A4 => "args A4",
     }
 }
 

@@ -1,19 +1,24 @@
-//! The text of a query, decided: its tree, or why it is refused.
+//! The text of a query, decided: its tree, over no schema or over one, or why it is refused.
 ghost use Rattle.std.specs.Prelude.{◌≡◌, ◌<◌, ◌^◌, length};
 ghost use Rattle.const_build.specs.Built.{built_query};
-ghost use Rattle.edge_run.specs.Judgement.{AsConst, IsDecided};
+ghost use Rattle.query_build.specs.Built.{built_query as built_query_over};
+ghost use Rattle.edge_run.specs.Judgement.{AsConst, AsQuery, IsDecided};
 ghost use Rattle.edge_run.specs.Limits.{IsShort};
 ghost use Rattle.edge_run.specs.Query.{IsTokens, IsParsed, IsSurface, IsTree};
 
 use crate::document::limit;
 use crate::outcome::{Doc, Outcome, QueryRefusal};
+use crate::schema::is_numbered;
 use ast::Query;
 use const_build::{BuildError, build_query};
 use const_ir::Expr;
+use core_ir::Scope;
 use eql_parse::{SyntaxRefusal, parse_query};
 use ev_lex::{LexRefusal, Tokens, lex};
+use ev_schema::Schema;
 use ev_value::Bytes;
 use exact::Rule;
+use query_build::{BuildError as OverError, build_query as build_query_over};
 use std::alloc::Global;
 
 // The tokens of a text.
@@ -60,7 +65,7 @@ fn surface(alloc: Global, text: &[u8]) -> Result<Query, Outcome>
     }
 }
 
-// The tree that the surface tree is built as.
+// The tree that the surface tree is built as, over no schema.
 fn tree(alloc: Global, query: &Query) -> Result<Expr, Outcome>
     ensures { IsTree (built_query query.now) result }
 {
@@ -72,7 +77,6 @@ fn tree(alloc: Global, query: &Query) -> Result<Expr, Outcome>
 }
 
 /// The tree of a query text over no schema, unless it is too long, spells no query, or one that is not built.
-#[tactic(auto, using(crate::proofs::QueryLaws::long, crate::proofs::QueryLaws::told_is_decided, crate::proofs::QueryLaws::tree_is_decided))]
 pub fn decide_query(alloc: Global, text: &Bytes) -> Result<Expr, Outcome>
     ensures { IsDecided AsConst text.now result }
 {
@@ -81,6 +85,33 @@ pub fn decide_query(alloc: Global, text: &Bytes) -> Result<Expr, Outcome>
     }
     match surface(alloc, text.as_slice()) {
         Ok(query) => tree(alloc, &query),
+        Err(outcome) => Err(outcome),
+    }
+}
+
+// The tree that the surface tree is built as, over a schema.
+fn tree_over(alloc: Global, schema: &Schema, query: &Query) -> Result<Scope, Outcome>
+    ensures { IsTree (built_query_over schema.now query.now) result }
+{
+    if !is_numbered(schema) {
+        return Err(Outcome::Memory);
+    }
+    match build_query_over(alloc, schema, query) {
+        Ok(tree) => Ok(tree),
+        Err(OverError::Unbuilt) => Err(Outcome::QueryRefused(QueryRefusal::Unbuilt)),
+        Err(OverError::Memory) => Err(Outcome::Memory),
+    }
+}
+
+/// The tree of a query text over a schema, unless it is too long, spells no query, or one that is not built there.
+pub fn decide_query_over(alloc: Global, schema: &Schema, text: &Bytes) -> Result<Scope, Outcome>
+    ensures { IsDecided (AsQuery schema.now) text.now result }
+{
+    if text.len() as u64 > limit(Doc::Query) {
+        return Err(Outcome::TooLong(Doc::Query));
+    }
+    match surface(alloc, text.as_slice()) {
+        Ok(query) => tree_over(alloc, schema, &query),
         Err(outcome) => Err(outcome),
     }
 }

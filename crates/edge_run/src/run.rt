@@ -14,7 +14,8 @@ use std::alloc::Global;
 /// `out` or one line of another end to `err`.
 ///
 /// The words are MODE, SCHEMA, DATA and QUERY, and behind them `--args` and a name where there are arguments. The modes are
-/// `const`, the query alone, over no schema and no objects; and `check`, the schema and the data, and how many types and objects there are.
+/// `const`, the query alone, over no schema and no objects; `check`, the schema and the data, and how many types and objects
+/// there are; and `run`, the query over the schema and the data, with the arguments.
 pub fn run_words<H: Shelf, K: Sink, L: Sink, G: Gate>(
     alloc: Global,
     words: &[Text],

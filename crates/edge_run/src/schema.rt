@@ -1,5 +1,5 @@
 //! The text of a schema, decided: the schema, or why it is refused.
-ghost use Rattle.std.specs.Prelude.{◌≡◌, ◌<◌, ◌^◌, length};
+ghost use Rattle.std.specs.Prelude.{◌≡◌, ◌↔◌, ◌<◌, ◌^◌, IsTrue, length};
 ghost use Rattle.edge_run.specs.Judgement.{AsSchema, IsDecided};
 ghost use Rattle.edge_run.specs.Limits.{IsShort};
 ghost use Rattle.edge_run.specs.Schema.{IsTokens, IsParsed, IsSurface, IsMade};
@@ -86,4 +86,14 @@ pub fn decide_schema(alloc: Global, text: &Bytes) -> Result<Schema, Outcome>
         Ok(file) => made(alloc, file),
         Err(outcome) => Err(outcome),
     }
+}
+
+/// Whether the types and the pointers have numbers of 32 bits, and there are pointers at all: `id` is one. A schema of a text that
+/// is not too long is so.
+pub fn is_numbered(schema: &Schema) -> bool
+    ensures { IsTrue result ↔ (length schema.now.types < 2 ^ 32 × (0 < length schema.now.pointers × length schema.now.pointers < 2 ^ 32)) }
+{
+    schema.types.len() <= u32::MAX as usize
+        && !schema.pointers.is_empty()
+        && schema.pointers.len() <= u32::MAX as usize
 }

@@ -1,8 +1,10 @@
 //! Texts of data over two schemas, with what comes of them.
 
+use core_ir::TypeId;
 use db_load::load;
 use ev_lex::{Tokens, lex};
 use ev_schema::Schema;
+use ev_value::List;
 use obj_draft::{DataRefusal, Rule};
 use schema_build::build;
 use sdl_parse::parse_schema;
@@ -423,5 +425,38 @@ fn data_without_its_end_is_no_json(rt: HostRuntime) -> Result<(), Fail> {
     let alloc = rt.alloc();
     let schema = schema_in(alloc, PEOPLE).ok_or("there is no schema")?;
     assert_eq!(rt; first_taken(alloc, &schema, DATA.as_bytes()), DATA.len());
+    Ok(())
+}
+
+/// Two users and a post, in the order of their ids turned round.
+static TURNED: &str =
+    r#"{"format":1,"objects":[{"id":"00000000-0000-0000-0000-000000000003","type":"User","name":"Cid"},{"id":"00000000-0000-0000-0000-000000000002","type":"User","name":"Bob"},{"id":"00000000-0000-0000-0000-000000000001","type":"Post","title":"A","author":"00000000-0000-0000-0000-000000000003"}]}"#;
+
+/// The places of the objects of a type in the store of a text. None where there is no store, or memory ran out.
+fn places(alloc: Global, schema: &Schema, text: &[u8], ty: u32) -> Option<List<u32>> {
+    if schema.types.len() > 10000 || schema.pointers.is_empty() || schema.pointers.len() > 10000 {
+        return None;
+    }
+    match load(alloc, schema, text) {
+        Ok(store) if store.objects.len() < 10000 => store.extent(alloc, schema, TypeId(ty)).ok(),
+        Ok(_) | Err(_) => None,
+    }
+}
+
+fn are_places(alloc: Global, schema: &Schema, ty: u32, due: &[u32]) -> bool {
+    match places(alloc, schema, TURNED.as_bytes(), ty) {
+        Some(places) => places.as_slice() == due,
+        None => false,
+    }
+}
+
+#[test]
+fn a_type_has_the_objects_of_those_that_extend_it(rt: HostRuntime) -> Result<(), Fail> {
+    let alloc = rt.alloc();
+    let schema = schema_in(alloc, PEOPLE).ok_or("there is no schema")?;
+    // The types are `Named`, `User` and `Post`, in the order of the text.
+    assert!(rt; are_places(alloc, &schema, 0, &[1, 2]));
+    assert!(rt; are_places(alloc, &schema, 1, &[1, 2]));
+    assert!(rt; are_places(alloc, &schema, 2, &[0]));
     Ok(())
 }

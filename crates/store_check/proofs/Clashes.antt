@@ -6,20 +6,17 @@ use Rattle.core_ir.specs.declared.path.PtrId.{PtrId}
 use Rattle.ev_list.specs.Occurrence.{has_repeat}
 use Rattle.ev_schema.specs.declared.pointer.PtrInfo.{PtrInfo}
 use Rattle.ev_value.specs.declared.value.Val.{Val}
-use Rattle.obj_draft.specs.First.{or_else, when}
+use Rattle.obj_draft.specs.First.{when}
 use Rattle.obj_store.specs.Fits.{Each}
 use Rattle.obj_store.specs.Limits.{same}
 use Rattle.obj_store.specs.Objects.{items_at}
 use Rattle.obj_store.specs.declared.object.Object.{Object}
 use Rattle.store_check.specs.Exclusive.{Holding, held_too, held_with, lesser, repeated, is_exclusive_pointer, exclusive_items, held_after, clash, pointers_at, told_clash, exclusive_from}
 use Rattle.store_check.proofs.IdOrder.{each_more}
-use Rattle.store_check.proofs.Repeats.{no_either, Apart, Single}
+use Rattle.store_check.proofs.NoFlaw.{neither_of, not_when, no_either}
+use Rattle.store_check.proofs.Repeats.{Apart, Single}
 
 -- ---- who holds a value goes on to hold it
-
-neither_of : {A : Type 0} (o p : Option A) → or_else o p ≡ None → (o ≡ None) × (p ≡ None)
-neither_of None p e = (refl, e)
-neither_of (Some x) p e = absurd (cc)
 
 -- whoever holds nothing later held nothing before
 abbrev Grows : Holding → Holding → Type 0
@@ -31,10 +28,6 @@ grows_too held p v n q w e = (neither_of (held q w) (when (p.0 == q.0 && same v 
 grows_with : (held : Holding) (n : ℕ) (p : PtrId) (vs : List Val) → Grows held (held_with held n p vs)
 grows_with held n p [] q w e = e
 grows_with held n p (v ∷ more) q w e = grows_too held p v n q w (grows_with (held_too held p v n) n p more q w e)
-
-not_when : (b : Bool) (n : ℕ) → when b n ≡ None → b ≡ false
-not_when true n e = cc
-not_when false n e = refl
 
 second_false : (a b : Bool) → a ≡ true → (a && b) ≡ false → b ≡ false
 second_false true b h e = e

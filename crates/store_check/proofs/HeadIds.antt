@@ -48,7 +48,7 @@ abbrev pub HeadsDiffer : List Head → Type 0
 HeadsDiffer [] = Unit {0}
 HeadsDiffer (h ∷ more) = Each (λ (g : Head). h.id ≢ g.id) more × HeadsDiffer more
 
-each_last : {A : Type 0} (P : A → Type 0) (xs : List A) (x : A) → Each P xs → P x → Each P (xs ++ x ∷ [])
+pub each_last : {A : Type 0} (P : A → Type 0) (xs : List A) (x : A) → Each P xs → P x → Each P (xs ++ x ∷ [])
 each_last P [] x h p = (p, tt)
 each_last P (y ∷ ys) x h p = (h.0, each_last P ys x h.1 p)
 
@@ -56,11 +56,11 @@ differ_last : (hs : List Head) (h : Head) → HeadsDiffer hs → Each (λ (g : H
 differ_last [] h d other = (tt, tt)
 differ_last (g ∷ gs) h d other = (each_last (λ (k : Head). g.id ≢ k.id) gs h d.0 other.0, differ_last gs h d.1 other.1)
 
-passed : (r : Result Head Broken) (next : Head → Result (List Head) Broken) (hs : List Head) → passing r next ≡ Ok hs → (h : Head) × (r ≡ Ok h) × (next h ≡ Ok hs)
+pub passed : (r : Result Head Broken) (next : Head → Result (List Head) Broken) (hs : List Head) → passing r next ≡ Ok hs → (h : Head) × (r ≡ Ok h) × (next h ≡ Ok hs)
 passed (Ok h) next hs e = (h, refl, e)
 passed (Err b) next hs e = absurd (cc)
 
-ok_same : (before hs : List Head) → ◌≡◌ {A = Result (List Head) Broken} (Ok before) (Ok hs) → before ≡ hs
+pub ok_same : (before hs : List Head) → ◌≡◌ {A = Result (List Head) Broken} (Ok before) (Ok hs) → before ≡ hs
 ok_same before hs e = cc
 
 differ_from : (types : List TypeInfo) (before : List Head) (ds : List ObjectDraft) (hs : List Head) → HeadsDiffer before → heads_from types before ds ≡ Ok hs → HeadsDiffer hs

@@ -26,7 +26,7 @@ by_id (o ∷ more) = put o (by_id more)
 
 -- ---- this is the order of the store
 
-then_equal : (o : Ordering) → ordering_then o Equal ≡ o
+pub then_equal : (o : Ordering) → ordering_then o Equal ≡ o
 then_equal Less = refl
 then_equal Equal = refl
 then_equal Greater = refl
@@ -36,7 +36,7 @@ gt_turned Less = refl
 gt_turned Equal = refl
 gt_turned Greater = refl
 
-lt_is : (m n : ℕ) → is_lt (nat_cmp m n) ≡ nat_lt m n
+pub lt_is : (m n : ℕ) → is_lt (nat_cmp m n) ≡ nat_lt m n
 lt_is m n = by_tests (nat_lt m n) (m == n)
   where
     by_tests : (b e : Bool) → is_lt (cond b Less (cond e Equal Greater)) ≡ b
@@ -44,7 +44,7 @@ lt_is m n = by_tests (nat_lt m n) (m == n)
     by_tests false true = refl
     by_tests false false = refl
 
-ids_cmp : (m n : ℕ) → val_cmp (made.Id m) (made.Id n) ≡ nat_cmp m n
+pub ids_cmp : (m n : ℕ) → val_cmp (made.Id m) (made.Id n) ≡ nat_cmp m n
 unfolding val_cmp
 ids_cmp m n = refl
 
@@ -83,6 +83,10 @@ store_is os = ap keyless (order_is os) ∙ keyless_is (by_id os)
 pub each_more : {A : Type 0} (P Q : A → Type 0) → ((x : A) → P x → Q x) → (xs : List A) → Each P xs → Each Q xs
 each_more P Q f [] h = tt
 each_more P Q f (x ∷ xs) h = (f x h.0, each_more P Q f xs h.1)
+
+pub ascend_more : {A : Type 0} (early late : A → A → Bool) → ((x y : A) → early x y ≡ true → late x y ≡ true) → (xs : List A) → Ascend early xs → Ascend late xs
+ascend_more early late f [] h = tt
+ascend_more early late f (x ∷ xs) h = (each_more (λ y. early x y ≡ true) (λ y. late x y ≡ true) (f x) xs h.0, ascend_more early late f xs h.1)
 
 pub each_put : (P : Object → Type 0) (o : Object) (os : List Object) → P o → Each P os → Each P (put o os)
 each_put P o [] h hs = (h, tt)

@@ -2,9 +2,22 @@ mod Notes
 mod HeadTurns
 mod ObjectTurns
 mod Ruled
-mod IdOrder
+pub mod IdOrder
 mod HeadIds
-mod Repeats
+pub mod Repeats
 mod Clashes
 mod Listed
-mod StoreLaws
+pub mod Places
+pub mod Sorted
+pub mod NameOrder
+pub mod NoFlaw
+mod Pieces
+mod PropertyValues
+pub mod Contained
+mod LinkTargets
+mod Entries
+mod PointerFits
+mod HeadTypes
+mod Found
+mod ObjectFits
+pub mod StoreLaws

@@ -20,13 +20,13 @@ use Rattle.draft_values.specs.Made.{stored_entry, entry_of, entry_if_known, entr
 use Rattle.store_check.specs.Check.{objects_of}
 use Rattle.store_check.specs.Exclusive.{is_exclusive_pointer, pointers_at}
 use Rattle.store_check.proofs.Clashes.{is_listed, Lists}
-use Rattle.store_check.proofs.Repeats.{neither}
+use Rattle.store_check.proofs.NoFlaw.{neither}
 
 module _ (p : PtrId) where
   abbrev Other : Entry → Type 0
   Other e = (e.pointer.0 == p.0) ≡ false
 
-  skipped : (xs ys : List Entry) → Each Other xs → entry (xs ++ ys) p ≡ entry ys p
+  pub skipped : (xs ys : List Entry) → Each Other xs → entry (xs ++ ys) p ≡ entry ys p
   skipped [] ys h = refl
   skipped (x ∷ xs) ys h = ap (λ b. cond b (Some x.value) (entry (xs ++ ys) p)) h.0 ∙ skipped xs ys h.1
 
@@ -43,7 +43,7 @@ module _ (p : PtrId) where
     body_other info (body.Stored t) es = stored_other info t es
     body_other info body.Computed es = tt
 
-    known_other : (ms : List Member) (o : Option PtrInfo) → Each Other (entry_if_known ms q o)
+    pub known_other : (ms : List Member) (o : Option PtrInfo) → Each Other (entry_if_known ms q o)
     known_other ms None = tt
     known_other ms (Some info) = body_other info info.body (elements (member ms info.name))
 

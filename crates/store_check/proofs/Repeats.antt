@@ -1,5 +1,5 @@
 -- Lists of values without a repeat, list by list.
-use Rattle.std.proofs.Common.{◌≡◌, nat_lt, Bool, true, false, ◌||◌, List, [], ◌∷◌, ◌++◌, cond, filter, flat_map, refl, sym}
+use Rattle.std.proofs.Common.{◌≡◌, nat_lt, Bool, true, false, List, [], ◌∷◌, ◌++◌, cond, filter, flat_map, refl, sym}
 use Rattle.std.specs.List.{list_any}
 use Rattle.ev_list.specs.Occurrence.{has_repeat}
 use Rattle.ev_list.specs.Sames.{val_exact}
@@ -8,14 +8,7 @@ use Rattle.obj_store.specs.Fits.{Each}
 use Rattle.obj_store.specs.Limits.{same}
 use Rattle.obj_store.specs.declared.object.Object.{Object}
 use Rattle.store_check.proofs.IdOrder.{each_more, each_put, each_by_id, put, by_id}
-
-pub neither : (a b : Bool) → (a || b) ≡ false → (a ≡ false) × (b ≡ false)
-neither true b h = absurd (cc)
-neither false b h = (refl, h)
-
-pub no_either : (a b : Bool) → a ≡ false → b ≡ false → (a || b) ≡ false
-no_either true b h g = cc
-no_either false b h g = g
+use Rattle.store_check.proofs.NoFlaw.{neither, no_either}
 
 same_turned : (v w : Val) → same v w ≡ false → same w v ≡ false
 same_turned v w h = by_case (same w v) refl

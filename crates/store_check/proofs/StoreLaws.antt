@@ -6,7 +6,7 @@ use Rattle.ev_schema.specs.Types.{is_subtype}
 use Rattle.ev_schema.specs.declared.schema.Schema.{Schema}
 use Rattle.obj_draft.specs.declared.draft.ObjectDraft.{ObjectDraft}
 use Rattle.obj_draft.specs.declared.refusal.Broken.{Broken}
-use Rattle.obj_store.specs.Fits.{Ascend}
+use Rattle.obj_store.specs.Fits.{Each, Ascend, FitsObject}
 use Rattle.obj_store.specs.Limits.{same}
 use Rattle.obj_store.specs.Objects.{items_at}
 use Rattle.obj_store.specs.declared.object.Object.{Object}
@@ -14,13 +14,16 @@ use Rattle.draft_heads.specs.Heads.{heads}
 use Rattle.draft_heads.specs.declared.heads.Head.{Head}
 use Rattle.store_check.specs.Check.{objects_of, orders, values_from, store_of, unless, valued_with, headed}
 use Rattle.store_check.specs.Exclusive.{exclusive, nobody, is_exclusive_pointer, is_exclusive_if_known}
-use Rattle.store_check.specs.Laws.{StoresStandInOrder, ExclusiveValuesStandOnce}
+use Rattle.store_check.specs.Laws.{StoresStandInOrder, ExclusiveValuesStandOnce, StoresFit}
 use Rattle.store_check.specs.declared.store.Store.{Store}
 use Rattle.store_check.proofs.Clashes.{single_of}
 use Rattle.store_check.proofs.Listed.{made_list}
 use Rattle.store_check.proofs.Repeats.{single_by_id, single_kept, none_twice}
+use Rattle.store_check.proofs.Found.{target_found}
+use Rattle.store_check.proofs.HeadTypes.{heads_known}
+use Rattle.store_check.proofs.ObjectFits.{objects_fit}
 use Rattle.store_check.proofs.HeadIds.{heads_differ, objects_differ}
-use Rattle.store_check.proofs.IdOrder.{before, by_id, store_is, ascend_by_id}
+use Rattle.store_check.proofs.IdOrder.{before, by_id, store_is, each_by_id, ascend_by_id}
 
 unless_ok : (o : Option Broken) (due st : Store) → unless o due ≡ Ok st → (o ≡ None) × (due ≡ st)
 unless_ok None due st e = let is : due ≡ st = cc in (refl, is)
@@ -58,3 +61,17 @@ exclusive_once s ds st e p info known ex =
     let kept = λ (o : Object). is_subtype s.types o.ty info.origin in
     subst (λ l. has_repeat same (flat_map items (filter kept l)) ≡ false) stored
     (none_twice items (filter kept (by_id os)) (single_kept items kept (by_id os) (single_by_id items os (single_of s.pointers p is (orders s) nobody 0 os (made_list p s is (orders s) v.0 ds) v.3))))
+
+pub all_fit : StoresFit
+all_fit s well ds st e =
+    let v = headed_ok s ds (heads s.types ds) st e in
+    let os = objects_of s (orders s) v.0 ds in
+    let stored : by_id os ≡ st.objects = sym (store_is os) ∙ ap (λ (t : Store). t.objects) v.4 in
+    let known = heads_known s.types ds v.0 v.1 in
+    let found = target_found s (orders s) v.0 ds known.1 (objects_differ s (orders s) v.0 ds (heads_differ s.types ds v.0 v.1)) in
+    record {
+      in_order = stores_in_order s ds st e;
+      each = subst (λ l. Each (FitsObject s (λ info. info.card) l) l) stored
+          (each_by_id (FitsObject s (λ info. info.card) (by_id os)) os (objects_fit s well v.0 (by_id os) found 0 v.0 ds known.0 v.2));
+      once = exclusive_once s ds st e;
+    }

@@ -2,4 +2,5 @@ pub mod Exclusive
 pub mod Holders
 pub mod KeyLaws
 pub mod Check
+pub mod Extent
 pub mod Laws

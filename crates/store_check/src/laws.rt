@@ -1,5 +1,5 @@
 //! The laws of stores, for proofs that cite them.
-ghost use Rattle.store_check.specs.Laws.{StoresStandInOrder, ExclusiveValuesStandOnce};
+ghost use Rattle.store_check.specs.Laws.{StoresStandInOrder, ExclusiveValuesStandOnce, StoresFit};
 
 /// The objects of a store stand in order of id, so no id stands twice.
 pub fn stores_stand_in_order()
@@ -9,4 +9,9 @@ pub fn stores_stand_in_order()
 /// Of an exclusive pointer no value stands twice.
 pub fn exclusive_values_stand_once()
     ensures { ExclusiveValuesStandOnce }
+{}
+
+/// The objects of a store fit the schema.
+pub fn stores_fit()
+    ensures { StoresFit }
 {}

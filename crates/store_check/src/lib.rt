@@ -9,5 +9,5 @@ mod made;
 mod store;
 
 pub use checking::check;
-pub use laws::{exclusive_values_stand_once, stores_stand_in_order};
+pub use laws::{exclusive_values_stand_once, stores_fit, stores_stand_in_order};
 pub use store::Store;

@@ -1,4 +1,4 @@
-use Rattle.std.proofs.Common.{subst, sym, Err}
+use Rattle.std.proofs.Common.{subst, Err}
 use Rattle.db_load.specs.Load.{IsLoaded}
 use Rattle.obj_draft.specs.declared.refusal.DataRefusal.{DataRefusal}
 use Rattle.edge_run.proofs.DataLaws.{loaded_is_decided, refused_is_decided}

@@ -1,6 +1,6 @@
-use Rattle.std.proofs.Common.{rules, ◌≡◌, Ok, Err, ◌⊎◌, inl, inr, Result}
+use Rattle.std.proofs.Common.{rules}
 use Rattle.edge_run.proofs.Answered.{answered_fault, answered_text}
-use Rattle.edge_run.proofs.modes.answer_of.Goals as goal
+use Rattle.edge_run.proofs.answers.answer_of.Goals as goal
 
 pub returns-in-Some : goal.returns-in-Some
 returns-in-Some c = answered_fault _ _ _ c.in-Some.ensures.1

@@ -1,0 +1,13 @@
+use Rattle.std.proofs.Common.{subst, Err, []}
+use Rattle.args_load.specs.Load.{IsLoaded}
+use Rattle.args_load.specs.declared.refusal.ArgsRefusal.{ArgsRefusal}
+use Rattle.edge_run.proofs.ArgsLaws.{loaded_is_decided, refused_is_decided}
+use Rattle.edge_run.proofs.args.loaded_args.Goals as goal
+
+pub returns-in-Ok : goal.returns-in-Ok
+returns-in-Ok c = loaded_is_decided c.args.schema.now c.args.text.now c.in-Ok.args c.requires c.in-Ok.ensures
+
+pub returns-in-Err-Rule : goal.returns-in-Err-Rule
+returns-in-Err-Rule c =
+    refused_is_decided c.args.schema.now c.args.text.now c.in-Err-Rule.broken c.requires
+    (subst (λ (r : ArgsRefusal). IsLoaded c.args.text.now c.args.schema.now [] (Err r)) c.in-Err-Rule.field-0-is c.in-Err-Rule.ensures)
