@@ -6,8 +6,9 @@ use ev_value::{Bytes, List, Text};
 use std::alloc::{AllocError, Global};
 use std::test::Fail;
 
-// The schema `s`, its data `d`, and the data `e` without an object: each shelf holds them.
-static FILES: [(&str, &str); 3] = [
+// What each shelf holds: the schema `s` and its data `d`, the data `e` without an object, the schema `a` and its data `b`, the
+// schema `g` with a global, and the queries `q` and `n`.
+static FILES: [(&str, &str); 8] = [
     (
         "s",
         "abstract type Named { required name: str { constraint exclusive; } }\ntype User extending Named { age: int64; multi friends: User { strength: int64; } }\ntype Post { required title: str; required author: User; multi tags: str; }\n",
@@ -17,6 +18,14 @@ static FILES: [(&str, &str); 3] = [
         r#"{"format":1,"objects":[{"id":"00000000-0000-0000-0000-000000000001","type":"User","name":"Ann","age":30,"friends":[{"id":"00000000-0000-0000-0000-000000000002","@strength":5}]},{"id":"00000000-0000-0000-0000-000000000002","type":"User","name":"Bob","friends":[{"id":"00000000-0000-0000-0000-000000000001","@strength":1},"00000000-0000-0000-0000-000000000003"]},{"id":"00000000-0000-0000-0000-000000000003","type":"User","name":"Cid","age":7},{"id":"00000000-0000-0000-0000-000000000004","type":"Post","title":"A","author":"00000000-0000-0000-0000-000000000001","tags":["x","y"]},{"id":"00000000-0000-0000-0000-000000000005","type":"Post","title":"B","author":"00000000-0000-0000-0000-000000000001"}]}"#,
     ),
     ("e", r#"{"format":1,"objects":[]}"#),
+    ("a", "type A { x: int64; }"),
+    (
+        "b",
+        r#"{"format":1,"objects":[{"id":"00000000-0000-0000-0000-000000000002","type":"A","x":7},{"id":"00000000-0000-0000-0000-000000000001","type":"A","x":5},{"id":"00000000-0000-0000-0000-000000000003","type":"A"}]}"#,
+    ),
+    ("q", "select A.x"),
+    ("g", "global me: str;"),
+    ("n", "select 1"),
 ];
 
 fn file(alloc: Global, name: &str, text: &[u8]) -> Result<File, AllocError> {
@@ -56,9 +65,10 @@ fn run(
     shelf: &mut MemShelf,
     out: &mut MemSink,
     err: &mut MemSink,
-) -> Result<Outcome, AllocError> {
+) -> Result<u8, AllocError> {
     let words = words(alloc, line)?;
-    Ok(run_words(alloc, words.as_slice(), shelf, out, err, &OpenGate))
+    let end = run_words(alloc, words.as_slice(), shelf, out, err, &OpenGate);
+    Ok(end.status())
 }
 
 // Whether an end has the status, and the sinks took these texts.
@@ -80,11 +90,11 @@ fn ends(alloc: Global, line: &str, text: &str, status: u8, told: &str) -> Result
     let mut err = sink(alloc, 4096)?;
     let end = run(alloc, line, &mut shelf, &mut out, &mut err)?;
     let (answer, complaint) = if status == 0 { (told, "") } else { ("", told) };
-    Ok(is_told(end.status(), status, &out, answer, &err, complaint))
+    Ok(is_told(end, status, &out, answer, &err, complaint))
 }
 
 // The words, the text, the status, and what is told.
-static ROWS: [(&str, &str, u8, &str); 55] = [
+static ROWS: [(&str, &str, u8, &str); 83] = [
     ("const none none t", "select {2, 1} + 1", 0, "[3,2]\n"),
     (
         "const none none t",
@@ -164,7 +174,7 @@ static ROWS: [(&str, &str, u8, &str); 55] = [
         "query unbuilt\n",
     ),
     ("const none none t --args none", "select 1", 0, "[1]\n"),
-    ("const none none q", "", 3, "read query\n"),
+    ("const none none r", "", 3, "read query\n"),
     ("", "select 1", 2, "usage U1\n"),
     ("const none none", "select 1", 2, "usage U1\n"),
     ("const none none t t", "select 1", 2, "usage U1\n"),
@@ -295,6 +305,84 @@ static ROWS: [(&str, &str, u8, &str); 55] = [
         5,
         "schema M3 byte 0\n",
     ),
+    ("run a b t", "select A.x", 0, "[5,7]\n"),
+    (
+        "run a b t",
+        "select A.id",
+        0,
+        "[\"00000000-0000-0000-0000-000000000001\",\"00000000-0000-0000-0000-000000000002\",\"00000000-0000-0000-0000-000000000003\"]\n",
+    ),
+    (
+        "run a b t",
+        "select {1, 2} + {10, 20}",
+        0,
+        "[11,21,12,22]\n",
+    ),
+    (
+        "run a b t",
+        "select 9223372036854775807 + 1",
+        9,
+        "run fault 1\n",
+    ),
+    ("run a b t", "select A.x + 1", 8, "query unbuilt\n"),
+    ("run a b t", "select B.x", 8, "query unbuilt\n"),
+    ("run a b t", "select A.y", 8, "query unbuilt\n"),
+    ("run a b t", "select A", 8, "query unbuilt\n"),
+    ("run a b t", "select {1", 8, "query S2 token 3\n"),
+    (
+        "run s d t",
+        "select Named.name",
+        0,
+        "[\"Ann\",\"Bob\",\"Cid\"]\n",
+    ),
+    ("run s d t", "select User.age", 0, "[30,7]\n"),
+    ("run s d t", "select Post.title", 0, "[\"A\",\"B\"]\n"),
+    ("run s d t", "select User.friends", 8, "query unbuilt\n"),
+    ("run s d t", "select Post.tags", 8, "query unbuilt\n"),
+    ("run s e t", "select User.name", 0, "[]\n"),
+    ("run a b q --args t", "{}", 0, "[5,7]\n"),
+    ("run a b q --args t", "[]", 7, "args A1\n"),
+    (
+        "run a b q --args t",
+        r#"{"params":{"x":1}}"#,
+        7,
+        "args A2 $x\n",
+    ),
+    (
+        "run a b q --args t",
+        r#"{"globals":{"me":"Bob"},"params":{"x":1}}"#,
+        7,
+        "args A2 global me\n",
+    ),
+    ("run g e t", "select 1", 0, "[1]\n"),
+    (
+        "run g e q --args t",
+        r#"{"globals":{"me":"Bob"}}"#,
+        8,
+        "query unbuilt\n",
+    ),
+    (
+        "run g e n --args t",
+        r#"{"globals":{"me":"Bob"}}"#,
+        0,
+        "[1]\n",
+    ),
+    (
+        "run g e n --args t",
+        r#"{"globals":{"me":1}}"#,
+        7,
+        "args A3 global me\n",
+    ),
+    ("run a b q --args none", "", 3, "read args\n"),
+    ("run a b none --args none", "", 3, "read query\n"),
+    ("run a none none", "", 3, "read data\n"),
+    (
+        "run t none none",
+        "type A extending A {}",
+        5,
+        "schema M3 byte 0\n",
+    ),
+    ("run s t none", "[]", 6, "data X2\n"),
 ];
 
 // The first row that ends otherwise, or how many rows there are.
@@ -362,6 +450,17 @@ fn texts_have_limits(rt: HostRuntime) -> Result<(), Fail> {
             "long schema\n"
         )?
     );
+    assert!(rt;
+        repeats(
+            alloc,
+            "run a b n --args t",
+            1_048_569,
+            "",
+            " ",
+            11,
+            "long args\n"
+        )?
+    );
     Ok(())
 }
 
@@ -380,7 +479,7 @@ fn fails(
     let mut out = sink(alloc, rooms[0])?;
     let mut err = sink(alloc, rooms[1])?;
     let end = run(alloc, line, &mut shelf, &mut out, &mut err)?;
-    Ok(is_told(end.status(), status, &out, answer, &err, complaint))
+    Ok(is_told(end, status, &out, answer, &err, complaint))
 }
 
 #[test]
@@ -394,6 +493,28 @@ fn failing_devices_are_told(rt: HostRuntime) -> Result<(), Fail> {
     assert!(rt; fails(alloc, line, 0, [99, 99], 3, "", "read query\n")?);
     assert!(rt; fails(alloc, check, 0, [99, 99], 3, "", "read schema\n")?);
     assert!(rt; fails(alloc, check, 1, [99, 99], 3, "", "read data\n")?);
+    assert!(rt;
+        fails(
+            alloc,
+            "run s d t --args e",
+            2,
+            [99, 99],
+            3,
+            "",
+            "read query\n"
+        )?
+    );
+    assert!(rt;
+        fails(
+            alloc,
+            "run s d t --args e",
+            3,
+            [99, 99],
+            3,
+            "",
+            "read args\n"
+        )?
+    );
     assert!(rt; fails(alloc, "fly s d t", 9, [99, 3], 4, "", "usa")?);
     Ok(())
 }
