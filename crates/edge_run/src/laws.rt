@@ -5,11 +5,13 @@ ghost use Rattle.ev_schema.specs.declared.schema.Schema.{Schema};
 ghost use Rattle.obj_store.specs.Fits.{Fits};
 ghost use Rattle.store_check.specs.declared.store.Store.{Store};
 ghost use Rattle.edge_run.specs.Data.{IsStore};
+ghost use Rattle.edge_run.specs.Due.{Due};
 ghost use Rattle.edge_run.specs.Judgement.{Judgement, Matter, Decides};
 ghost use Rattle.edge_run.specs.Plan.{Plan, Verdict, Comes};
 ghost use Rattle.edge_run.specs.Query.{IsQuery};
 ghost use Rattle.edge_run.specs.Refusal.{Refusal};
 ghost use Rattle.edge_run.specs.Schema.{IsBuilt};
+ghost use Rattle.edge_run.specs.Task.{Task};
 
 /// Each text spells at most one query.
 pub fn one_query()
@@ -24,6 +26,11 @@ pub fn one_decision()
 /// Over what the names hold, a run comes to at most one verdict.
 pub fn one_verdict()
     ensures { (plan : Plan (List ℕ)) (files : List ℕ → Option (List ℕ)) (v : Verdict (List ℕ)) (w : Verdict (List ℕ)) → Comes files plan v → Comes files plan w → v ≡ w }
+{}
+
+/// Over what the names hold, at most one verdict is due for a task: so what `exact` of `run_words` says comes is all that is due.
+pub fn one_due()
+    ensures { (task : Task) (files : List ℕ → Option (List ℕ)) (v : Verdict (List ℕ)) (w : Verdict (List ℕ)) → Due task files v → Due task files w → v ≡ w }
 {}
 
 /// The objects of data that are accepted fit the schema that was accepted before them.

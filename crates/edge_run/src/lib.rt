@@ -17,6 +17,6 @@ mod schema;
 #[cfg(test)]
 mod tests;
 
-pub use laws::{accepted_objects_fit, one_decision, one_query, one_verdict};
+pub use laws::{accepted_objects_fit, one_decision, one_due, one_query, one_verdict};
 pub use outcome::{Chan, Doc, Outcome, QueryRefusal, SchemaRefusal, UsageRule, memory_line};
 pub use run::run_words;
