@@ -1,0 +1,5 @@
+//! Texts of SQL with what they answer over the tables of a schema and of its objects.
+#![tactic(auto)]
+
+#[cfg(test)]
+mod tests;
