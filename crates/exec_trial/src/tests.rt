@@ -14,7 +14,8 @@ use std::alloc::{AllocError, Global};
 use std::test::Fail;
 use tab_encode::encode;
 
-static SCHEMA: &str = "abstract type Named { required name: str { constraint exclusive; } }\ntype User extending Named { age: int64; multi friends: User { strength: int64; } }\ntype Post { required title: str; required author: User; multi tags: str; }\n";
+static SCHEMA: &str =
+    "abstract type Named { required name: str { constraint exclusive; } }\ntype User extending Named { age: int64; multi friends: User { strength: int64; } }\ntype Post { required title: str; required author: User; multi tags: str; }\n";
 
 static DATA: &str =
     r#"{"format":1,"objects":[{"id":"00000000-0000-0000-0000-000000000004","type":"Post","title":"A","author":"00000000-0000-0000-0000-000000000001","tags":["x","y"]},{"id":"00000000-0000-0000-0000-000000000001","type":"User","name":"Ann","age":30,"friends":[{"id":"00000000-0000-0000-0000-000000000002","@strength":5}]},{"id":"00000000-0000-0000-0000-000000000003","type":"User","name":"Cid","age":7},{"id":"00000000-0000-0000-0000-000000000002","type":"User","name":"Bob","friends":["00000000-0000-0000-0000-000000000003",{"id":"00000000-0000-0000-0000-000000000001","@strength":1}]}]}"#;
