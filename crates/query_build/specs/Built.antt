@@ -54,6 +54,7 @@ braces _ _ = None
 abbrev pub scope_at : ℕ → Option Expr → Option Scope
 scope_at start tree = option_map (λ (x : Expr). record { start = start; body = x }) tree
 
+-- an element in front of others, where each is built
 abbrev pub joined : Option Scope → Option (List Scope) → Option (List Scope)
 joined (Some first) (Some rest) = Some (first ∷ rest)
 joined _ _ = None
@@ -96,6 +97,7 @@ is_single card.AtMostOne = true
 is_single card.One = true
 is_single _ = false
 
+-- whether a pointer is known, and is a stored property with at most one value
 abbrev pub is_stored_property : Option PtrInfo → Bool
 is_stored_property None = false
 is_stored_property (Some info) = is_property info.body && is_single info.card
@@ -105,6 +107,7 @@ abbrev pub property_if : Schema → TypeId → Option PtrId → Option (TypeId �
 property_if s t None = None
 property_if s t (Some p) = if is_stored_property (slice_get s.pointers p.0) then Some (t, p) else None
 
+-- a type, if it is known, and its pointer with a name, if that is such a property
 abbrev pub property_of : Schema → Option TypeId → List ℕ → Option (TypeId × PtrId)
 property_of s None name = None
 property_of s (Some t) name = property_if s t (pointer_named s t name)
@@ -138,6 +141,7 @@ bare_path _ _ = None
 abbrev pub path : Schema → e.Expr → Option Expr
 path s x = bare_path s (bare x)
 
+-- the first tree, and the other one where there is none
 abbrev pub or_else : Option Expr → Option Expr → Option Expr
 or_else (Some x) other = Some x
 or_else None other = other
@@ -154,10 +158,12 @@ HasNone c = (c.filter ≡ None) × (c.order ≡ []) × (c.offset ≡ None) × (c
 abbrev pub IsPlain : List Alias → Clauses → Type 0
 IsPlain aliases c = (aliases ≡ []) × HasNone c
 
+-- whether no alias stands in a row of them
 abbrev pub no_alias : {m : _} → Row_of-Alias m → Bool
 no_alias end_of-Alias = true
 no_alias _ = false
 
+-- whether no key stands in a row of them
 abbrev pub no_key : {m : _} → Row_of-Key m → Bool
 no_key end_of-Key = true
 no_key _ = false
