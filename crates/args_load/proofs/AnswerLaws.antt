@@ -3,7 +3,7 @@ use Rattle.std.proofs.Common.{◌≡◌, ℕ, Bool, List, Option, Result, Ok, Er
 use Rattle.ev_value.specs.declared.args.Argument.{Argument}
 use Rattle.args_load.specs.Load.{IsAnswer, told}
 use Rattle.serde_json.specs.Data.{Data, Members, member}
-use Rattle.obj_draft.specs.declared.draft.Plain.{Plain}
+use Rattle.db_draft.specs.declared.draft.Plain.{Plain}
 use Rattle.json_draft.specs.Drafts.{plain_of}
 use Rattle.args_load.specs.Values.{and_then, argument, arguments, ty_of}
 use Rattle.args_load.specs.declared.names.Wanted.{Wanted}

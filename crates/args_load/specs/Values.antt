@@ -7,9 +7,9 @@ use Rattle.ev_value.specs.declared.value.ScalarTy.{ScalarTy}
 use Rattle.ev_value.specs.declared.value.Val.{Val}
 use Rattle.ev_list.specs.declared.param.Param.{Param}
 use Rattle.ev_schema.specs.declared.types.GlobalInfo.{GlobalInfo}
-use Rattle.obj_draft.specs.Values.{value_of}
-use Rattle.obj_draft.specs.declared.draft.Plain.{Plain}
-use Rattle.obj_draft.specs.declared.draft.Plain.TheVariants as plain
+use Rattle.db_draft.specs.Values.{value_of}
+use Rattle.db_draft.specs.declared.draft.Plain.{Plain}
+use Rattle.db_draft.specs.declared.draft.Plain.TheVariants as plain
 use Rattle.json_draft.specs.Drafts.{plain_of}
 use Rattle.args_load.specs.declared.refusal.ArgsRule.{ArgsRule}
 use Rattle.args_load.specs.declared.refusal.ArgsRule.TheVariants as rule

@@ -1,14 +1,14 @@
 -- The objects that are loaded from a text fit the schema.
 use Rattle.std.proofs.Common.{◌≡◌, inl, inr, List, Option, Some, None, Result, Ok, Err}
 use Rattle.ev_schema.specs.declared.schema.Schema.{Schema}
-use Rattle.obj_draft.specs.Told.{told}
-use Rattle.obj_draft.specs.declared.draft.ObjectDraft.{ObjectDraft}
-use Rattle.obj_draft.specs.declared.refusal.Broken.{Broken}
-use Rattle.obj_store.specs.Fits.{Fits}
-use Rattle.store_check.specs.Check.{checked}
-use Rattle.store_check.specs.Laws.{IsWellFormedSchema}
-use Rattle.store_check.specs.declared.store.Store.{Store}
-use Rattle.store_check.proofs.StoreLaws.{all_fit}
+use Rattle.db_draft.specs.Told.{told}
+use Rattle.db_draft.specs.declared.draft.ObjectDraft.{ObjectDraft}
+use Rattle.db_draft.specs.declared.refusal.Broken.{Broken}
+use Rattle.db_store.specs.Fits.{Fits}
+use Rattle.db_check.specs.Check.{checked}
+use Rattle.db_check.specs.Laws.{IsWellFormedSchema}
+use Rattle.db_check.specs.declared.store.Store.{Store}
+use Rattle.db_check.proofs.StoreLaws.{all_fit}
 use Rattle.json_draft.specs.Form.{document}
 use Rattle.db_load.specs.Load.{stored}
 use Rattle.db_load.specs.Laws.{LoadedObjectsFit}

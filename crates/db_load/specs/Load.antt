@@ -2,14 +2,14 @@
 use Rattle.std.specs.Prelude.{◌≡◌, ◌⊎◌, ℕ, List, Option, Some, None, Result, Err}
 use Rattle.serde_json.specs.Data.{Data}
 use Rattle.ev_schema.specs.declared.schema.Schema.{Schema}
-use Rattle.obj_draft.specs.Told.{told}
-use Rattle.obj_draft.specs.declared.draft.ObjectDraft.{ObjectDraft}
-use Rattle.obj_draft.specs.declared.refusal.DataRefusal.{DataRefusal}
-use Rattle.obj_draft.specs.declared.refusal.DataRefusal.TheVariants as refusal
-use Rattle.obj_draft.specs.declared.refusal.Rule.{Rule}
-use Rattle.obj_draft.specs.declared.refusal.Rule.TheVariants as rule
-use Rattle.store_check.specs.Check.{checked}
-use Rattle.store_check.specs.declared.store.Store.{Store}
+use Rattle.db_draft.specs.Told.{told}
+use Rattle.db_draft.specs.declared.draft.ObjectDraft.{ObjectDraft}
+use Rattle.db_draft.specs.declared.refusal.DataRefusal.{DataRefusal}
+use Rattle.db_draft.specs.declared.refusal.DataRefusal.TheVariants as refusal
+use Rattle.db_draft.specs.declared.refusal.Rule.{Rule}
+use Rattle.db_draft.specs.declared.refusal.Rule.TheVariants as rule
+use Rattle.db_check.specs.Check.{checked}
+use Rattle.db_check.specs.declared.store.Store.{Store}
 use Rattle.json_draft.specs.Form.{document}
 use Rattle.json_draft.specs.Text.{Says}
 

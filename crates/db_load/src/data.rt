@@ -1,16 +1,16 @@
 //! Loading data.
 ghost use Rattle.std.specs.Prelude.{◌≡◌, ◌<◌, ◌^◌, length};
 ghost use Rattle.serde_json.specs.View.{view};
-ghost use Rattle.obj_draft.specs.Told.{IsAnswer};
+ghost use Rattle.db_draft.specs.Told.{IsAnswer};
 ghost use Rattle.json_draft.specs.Form.{document as document_of_data};
 ghost use Rattle.db_load.specs.Load.{IsLoaded, stored, at_text as refused_at_text};
 
+use db_check::{Store, check};
+use db_draft::{Broken, DataRefusal, Rule};
 use ev_schema::Schema;
 use json_draft::{TextError, document, value_of};
-use obj_draft::{Broken, DataRefusal, Rule};
 use serde_json::Value;
 use std::alloc::Global;
-use store_check::{Store, check};
 
 fn at_text(rule: Rule) -> DataRefusal
     ensures { result ≡ refused_at_text rule }

@@ -5,10 +5,10 @@ use Rattle.db_load.specs.Load.{IsLoaded, stored}
 use Rattle.ev_schema.specs.declared.schema.Schema.{Schema}
 use Rattle.json_draft.specs.Form.{document}
 use Rattle.json_draft.specs.Text.{Says}
-use Rattle.obj_draft.specs.declared.refusal.Broken.{Broken}
-use Rattle.obj_draft.specs.declared.refusal.DataRefusal.{DataRefusal}
-use Rattle.obj_draft.specs.declared.refusal.DataRefusal.TheVariants as load
-use Rattle.store_check.specs.declared.store.Store.{Store}
+use Rattle.db_draft.specs.declared.refusal.Broken.{Broken}
+use Rattle.db_draft.specs.declared.refusal.DataRefusal.{DataRefusal}
+use Rattle.db_draft.specs.declared.refusal.DataRefusal.TheVariants as load
+use Rattle.db_check.specs.declared.store.Store.{Store}
 use Rattle.edge_run.specs.Data.{Decides}
 use Rattle.edge_run.specs.Judgement.{AsData, IsDecided}
 use Rattle.edge_run.specs.Limits.{IsShort, IsLong}

@@ -1,7 +1,7 @@
 -- What is decided of a text, whatever it is judged as.
 use Rattle.std.proofs.Common.{◌≡◌, ℕ, List, Result}
 use Rattle.const_build.specs.Built as over_none
-use Rattle.query_build.specs.Built as over_schema
+use Rattle.eql_forms.specs.Built as over_schema
 use Rattle.edge_run.specs.Judgement.{Judgement, AsSchema, AsData, AsQuery, AsArgs, AsConst, Matter, Decides, doc_of}
 use Rattle.edge_run.specs.Refusal.{Refusal}
 use Rattle.edge_run.proofs.LimitLaws.{front}

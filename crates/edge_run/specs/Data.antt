@@ -2,9 +2,9 @@
 use Rattle.std.specs.Prelude.{◌≡◌, ℕ, List, Result, Ok, Err}
 use Rattle.db_load.specs.Load.{IsLoaded}
 use Rattle.ev_schema.specs.declared.schema.Schema.{Schema}
-use Rattle.obj_draft.specs.declared.refusal.Broken.{Broken}
-use Rattle.obj_draft.specs.declared.refusal.DataRefusal.TheVariants as load
-use Rattle.store_check.specs.declared.store.Store.{Store}
+use Rattle.db_draft.specs.declared.refusal.Broken.{Broken}
+use Rattle.db_draft.specs.declared.refusal.DataRefusal.TheVariants as load
+use Rattle.db_check.specs.declared.store.Store.{Store}
 use Rattle.edge_run.specs.Limits.{IsShort, IsLong}
 use Rattle.edge_run.specs.Refusal.{Refusal}
 use Rattle.edge_run.specs.Refusal as refused

@@ -5,8 +5,8 @@ use Rattle.const_ir.specs.declared.expr.Expr.{Expr}
 use Rattle.core_ir.specs.declared.tree.Scope.{Scope}
 use Rattle.ev_schema.specs.declared.schema.Schema.{Schema}
 use Rattle.ev_value.specs.declared.args.Args.{Args}
-use Rattle.query_build.specs.Built as over_schema
-use Rattle.store_check.specs.declared.store.Store.{Store}
+use Rattle.eql_forms.specs.Built as over_schema
+use Rattle.db_check.specs.declared.store.Store.{Store}
 use Rattle.edge_run.specs.Args as of_args
 use Rattle.edge_run.specs.Data as of_data
 use Rattle.edge_run.specs.Query as of_query

@@ -13,9 +13,9 @@ use Rattle.ev_value.specs.Nested.{answer_form}
 use Rattle.ev_value.specs.declared.item.Fault.{Fault}
 use Rattle.ev_value.specs.declared.item.Item.{Item}
 use Rattle.ev_value.specs.declared.value.Val.{Val}
-use Rattle.store_check.specs.declared.store.Store.{Store}
-use Rattle.store_world.specs.StoreWorld.{world_of}
-use Rattle.store_world.specs.View.{view_of}
+use Rattle.db_check.specs.declared.store.Store.{Store}
+use Rattle.eql_world.specs.StoreWorld.{world_of}
+use Rattle.eql_world.specs.View.{view_of}
 use Rattle.edge_run.specs.Judgement.{Judgement, AsSchema, AsData, AsQuery, AsArgs, AsConst, Matter, doc_of}
 use Rattle.edge_run.specs.Limits.{limit_of}
 use Rattle.edge_run.specs.Plan.{Plan, Answer, Refuse, Fail, Read, Judge, ◌>>=◌, ruled}

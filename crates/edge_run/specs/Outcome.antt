@@ -7,9 +7,9 @@ use Rattle.ev_value.specs.declared.item.Fault.{Fault}
 use Rattle.args_load.specs.declared.refusal.ArgsRule.{ArgsRule}
 use Rattle.args_load.specs.declared.refusal.ArgsRule.TheVariants as args_rule
 use Rattle.args_load.specs.declared.refusal.BrokenArgs.{BrokenArgs}
-use Rattle.obj_draft.specs.declared.refusal.Broken.{Broken}
-use Rattle.obj_draft.specs.declared.refusal.Rule as of_data
-use Rattle.obj_draft.specs.declared.refusal.Rule.TheVariants as data_rule
+use Rattle.db_draft.specs.declared.refusal.Broken.{Broken}
+use Rattle.db_draft.specs.declared.refusal.Rule as of_data
+use Rattle.db_draft.specs.declared.refusal.Rule.TheVariants as data_rule
 use Rattle.schema_build.specs.declared.refusal.Rule as of_schema
 use Rattle.schema_build.specs.declared.refusal.Rule.TheVariants as schema_rule
 use Rattle.edge_run.specs.declared.outcome.Doc.{Doc}

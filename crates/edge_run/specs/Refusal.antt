@@ -1,6 +1,6 @@
 -- What written rules refuse.
 use Rattle.args_load.specs.declared.refusal.BrokenArgs.{BrokenArgs}
-use Rattle.obj_draft.specs.declared.refusal.Broken.{Broken}
+use Rattle.db_draft.specs.declared.refusal.Broken.{Broken}
 use Rattle.edge_run.specs.declared.outcome.Doc.{Doc}
 use Rattle.edge_run.specs.declared.outcome.UsageRule.{UsageRule}
 use Rattle.edge_run.specs.declared.outcome.SchemaRefusal.{SchemaRefusal}

@@ -7,8 +7,8 @@ ghost use Rattle.edge_run.specs.Plan.{Goes};
 ghost use Rattle.edge_run.specs.Modes.{answered, answer_text as answer_text_of, IsFirst};
 
 use crate::outcome::Outcome;
+use ev_json::text;
 use ev_value::{Bytes, Fault, Item, List, Nested};
-use shape_decode::text;
 use std::alloc::{AllocError, Global};
 
 /// Memory ran out while the answer was made: nothing more is told.

@@ -5,12 +5,12 @@ ghost use Rattle.edge_run.specs.Limits.{IsShort};
 use crate::document::limit;
 use crate::outcome::{Doc, Outcome};
 use crate::schema::is_numbered;
+use db_check::Store;
+use db_draft::DataRefusal;
 use db_load::load;
 use ev_schema::Schema;
 use ev_value::Bytes;
-use obj_draft::DataRefusal;
 use std::alloc::Global;
-use store_check::Store;
 
 // The store that a text writes.
 fn loaded(alloc: Global, schema: &Schema, text: &[u8]) -> Result<Store, Outcome>

@@ -2,8 +2,8 @@
 ghost use Rattle.std.specs.Prelude.{◌≡◌, ℕ, List, Option, Result};
 ghost use Rattle.ast.specs.declared.statement.Query.{Query};
 ghost use Rattle.ev_schema.specs.declared.schema.Schema.{Schema};
-ghost use Rattle.obj_store.specs.Fits.{Fits};
-ghost use Rattle.store_check.specs.declared.store.Store.{Store};
+ghost use Rattle.db_store.specs.Fits.{Fits};
+ghost use Rattle.db_check.specs.declared.store.Store.{Store};
 ghost use Rattle.edge_run.specs.Data.{IsStore};
 ghost use Rattle.edge_run.specs.Due.{Due};
 ghost use Rattle.edge_run.specs.Judgement.{Judgement, Matter, Decides};

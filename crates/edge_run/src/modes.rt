@@ -12,13 +12,13 @@ use crate::outcome::{Outcome, UsageRule};
 use crate::reading::{given_args, read_data, read_query, read_query_over, read_schema};
 use const_ir::Expr;
 use core_ir::Scope;
+use db_check::Store;
 use eql_sem::strip;
+use eql_world::answer_over_view;
 use ev_io::Shelf;
 use ev_schema::Schema;
 use ev_value::{Args, Bytes, Item, List, Text};
 use std::alloc::{AllocError, Global};
-use store_check::Store;
-use store_world::answer_over_view;
 
 // The answer of a query: its items, worked out and written.
 fn run_query(alloc: Global, query: &Expr) -> Result<Bytes, Outcome>

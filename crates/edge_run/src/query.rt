@@ -1,7 +1,7 @@
 //! The text of a query, decided: its tree, over no schema or over one, or why it is refused.
 ghost use Rattle.std.specs.Prelude.{◌≡◌, ◌<◌, ◌^◌, length};
 ghost use Rattle.const_build.specs.Built.{built_query};
-ghost use Rattle.query_build.specs.Built.{built_query as built_query_over};
+ghost use Rattle.eql_forms.specs.Built.{built_query as built_query_over};
 ghost use Rattle.edge_run.specs.Judgement.{AsConst, AsQuery, IsDecided};
 ghost use Rattle.edge_run.specs.Limits.{IsShort};
 ghost use Rattle.edge_run.specs.Query.{IsTokens, IsParsed, IsSurface, IsTree};
@@ -13,12 +13,12 @@ use ast::Query;
 use const_build::{BuildError, build_query};
 use const_ir::Expr;
 use core_ir::Scope;
+use eql_forms::{BuildError as OverError, build_query as build_query_over};
 use eql_parse::{SyntaxRefusal, parse_query};
 use ev_lex::{LexRefusal, Tokens, lex};
 use ev_schema::Schema;
 use ev_value::Bytes;
 use exact::Rule;
-use query_build::{BuildError as OverError, build_query as build_query_over};
 use std::alloc::Global;
 
 // The tokens of a text.

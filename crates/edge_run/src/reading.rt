@@ -12,11 +12,11 @@ use crate::query::{decide_query, decide_query_over};
 use crate::schema::decide_schema;
 use const_ir::Expr;
 use core_ir::Scope;
+use db_check::Store;
 use ev_io::Shelf;
 use ev_schema::Schema;
 use ev_value::{Args, Text};
 use std::alloc::Global;
-use store_check::Store;
 
 /// The tree of a query over no schema.
 #[tactic(auto, unfolding(crate::specs::Modes::judged_document), using(crate::proofs::PlanLaws::then_ok, crate::proofs::PlanLaws::then_err, crate::proofs::PlanLaws::judged_goes))]

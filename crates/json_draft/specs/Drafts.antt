@@ -3,15 +3,15 @@ use Rattle.std.specs.Prelude.{ℕ, ℤ, Bool, List, [], ◌∷◌, codes, Option
 use Rattle.std.specs.Str.{bytes_eq}
 use Rattle.serde_json.specs.Data.{Data, null, boolean, number, string, array, object, Items, no_items, item, Members, no_members, member}
 use Rattle.serde_json.specs.Find.{as_i64}
-use Rattle.obj_draft.specs.declared.draft.Draft.{Draft}
-use Rattle.obj_draft.specs.declared.draft.Draft.TheVariants as draft
-use Rattle.obj_draft.specs.declared.draft.Element.{Element}
-use Rattle.obj_draft.specs.declared.draft.Element.TheVariants as element
-use Rattle.obj_draft.specs.declared.draft.Field.{Field}
-use Rattle.obj_draft.specs.declared.draft.Member.{Member}
-use Rattle.obj_draft.specs.declared.draft.ObjectDraft.{ObjectDraft}
-use Rattle.obj_draft.specs.declared.draft.Plain.{Plain}
-use Rattle.obj_draft.specs.declared.draft.Plain.TheVariants as plain
+use Rattle.db_draft.specs.declared.draft.Draft.{Draft}
+use Rattle.db_draft.specs.declared.draft.Draft.TheVariants as draft
+use Rattle.db_draft.specs.declared.draft.Element.{Element}
+use Rattle.db_draft.specs.declared.draft.Element.TheVariants as element
+use Rattle.db_draft.specs.declared.draft.Field.{Field}
+use Rattle.db_draft.specs.declared.draft.Member.{Member}
+use Rattle.db_draft.specs.declared.draft.ObjectDraft.{ObjectDraft}
+use Rattle.db_draft.specs.declared.draft.Plain.{Plain}
+use Rattle.db_draft.specs.declared.draft.Plain.TheVariants as plain
 
 -- a number is an integer of 64 bits, or another number
 abbrev pub integer_of : Option ℤ → Plain

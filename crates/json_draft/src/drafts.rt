@@ -4,8 +4,8 @@ ghost use Rattle.serde_json.specs.View.{view, items_view, members_view, number_v
 ghost use Rattle.serde_json.specs.Find.{as_i64};
 ghost use Rattle.json_draft.specs.Drafts.{integer_of, plain_of as plain_of_data, fields_of as fields_of_members, element_of as element_of_data, elements_of as elements_of_items, draft_of as draft_of_data, pointer_of as pointer_of_key, object_of as object_of_members};
 
+use db_draft::{Draft, Element, Field, Member, ObjectDraft, Plain};
 use ev_value::{List, Text};
-use obj_draft::{Draft, Element, Field, Member, ObjectDraft, Plain};
 use serde_json::{Map, Number, Value};
 use std::alloc::{AllocError, Global};
 

@@ -6,8 +6,8 @@ ghost use Rattle.serde_json.specs.View.{view, items_view, members_view};
 ghost use Rattle.json_draft.specs.Form.{drafts_of as drafts_of_items, is_format as is_format_data, objects_in as objects_in_data, document_in as document_in_members, document as document_of_data};
 
 use crate::drafts::object_of;
+use db_draft::ObjectDraft;
 use ev_value::List;
-use obj_draft::ObjectDraft;
 use serde_json::{Map, Value};
 use std::alloc::{AllocError, Global};
 

@@ -8,8 +8,8 @@ use Rattle.sdl_ast.specs.declared.declaration.Decl.{Decl}
 use Rattle.schema_build.specs.Parts.{decls_of}
 use Rattle.schema_build.specs.Twice.{type_names}
 use Rattle.schema_build.specs.Verdict.{schema_of}
-use Rattle.store_check.specs.Laws.{IsWellFormedSchema}
-use Rattle.store_check.proofs.StoreLaws.{all_fit}
+use Rattle.db_check.specs.Laws.{IsWellFormedSchema}
+use Rattle.db_check.proofs.StoreLaws.{all_fit}
 use Rattle.schema_laws.specs.Laws.{BuiltSchemasAreWellFormed, EmptySchemaIsWellFormed, StoresOfTextsFit}
 use Rattle.schema_laws.proofs.Passing.{is_built}
 use Rattle.schema_laws.proofs.PointerInfos.{infos_sound}

@@ -3,17 +3,17 @@ use Rattle.std.proofs.Common.{◌≡◌, ◌≢◌, ℕ, List, [], ◌∷◌, �
 use Rattle.ev_list.specs.Order.{in_order, keyless}
 use Rattle.ev_schema.specs.Policies.{by_name}
 use Rattle.ev_schema.specs.declared.pointer.LinkProperty.{LinkProperty}
-use Rattle.obj_store.specs.Fits.{Each, Ascend, text_before}
+use Rattle.db_store.specs.Fits.{Each, Ascend, text_before}
 use Rattle.schema_build.specs.Least.{at_if}
 use Rattle.schema_build.specs.LinkProperties.{repeated_items}
 use Rattle.schema_build.specs.Made.{scalar_of, properties_in, link_properties}
 use Rattle.schema_build.specs.Names.{is_among, meaning_of}
 use Rattle.sdl_ast.specs.declared.item.Item.{Item}
 use Rattle.sdl_ast.specs.declared.item.Item.TheVariants as item
-use Rattle.store_check.specs.Laws.{NamesDiffer}
-use Rattle.store_check.proofs.IdOrder.{each_more}
-use Rattle.store_check.proofs.NameOrder.{name_key, names_ascend}
-use Rattle.store_check.proofs.Sorted.{keyed, all_keyed, sorted_is}
+use Rattle.db_check.specs.Laws.{NamesDiffer}
+use Rattle.db_check.proofs.IdOrder.{each_more}
+use Rattle.db_check.proofs.NameOrder.{name_key, names_ascend}
+use Rattle.db_check.proofs.Sorted.{keyed, all_keyed, sorted_is}
 use Rattle.schema_laws.proofs.Passing.{none_sooner, not_at}
 use Rattle.schema_laws.proofs.Texts.{absent}
 

@@ -13,7 +13,7 @@ use Rattle.sdl_ast.specs.declared.member.Member.TheVariants as member
 use Rattle.sdl_ast.specs.declared.member.Pointer.{Pointer}
 use Rattle.sdl_ast.specs.declared.member.PointerBody.{PointerBody}
 use Rattle.sdl_ast.specs.declared.member.PointerBody.TheVariants as body
-use Rattle.store_check.proofs.Places.{at_length}
+use Rattle.db_check.proofs.Places.{at_length}
 use Rattle.schema_laws.proofs.Texts.{joint}
 
 pub at_front : {A : Type 0} (front back : List (List A)) (x : List A) → at (front ++ x ∷ back) (length front) ≡ x

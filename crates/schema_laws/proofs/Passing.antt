@@ -3,7 +3,7 @@ use Rattle.std.proofs.Common.{◌≡◌, inl, inr, ℕ, nat_lt, Bool, true, fals
 use Rattle.std.specs.List.{list_any}
 use Rattle.core_ir.specs.declared.path.TypeId.{TypeId}
 use Rattle.ev_schema.specs.declared.schema.Schema.{Schema}
-use Rattle.obj_store.specs.Fits.{Each}
+use Rattle.db_store.specs.Fits.{Each}
 use Rattle.schema_build.specs.Least.{sooner, at_if, least_of}
 use Rattle.schema_build.specs.Lineage.{clashing}
 use Rattle.schema_build.specs.Local.{fails_in}

@@ -8,7 +8,7 @@ use Rattle.ev_schema.specs.Facts.{id_info}
 use Rattle.ev_schema.specs.declared.pointer.LinkProperty.{LinkProperty}
 use Rattle.ev_schema.specs.declared.pointer.PtrInfo.{PtrInfo}
 use Rattle.ev_value.specs.declared.value.ScalarTy.TheVariants as scalar
-use Rattle.obj_store.specs.Fits.{Each, Ascend, text_before, stored_type}
+use Rattle.db_store.specs.Fits.{Each, Ascend, text_before, stored_type}
 use Rattle.schema_build.specs.Known.{takes, unknown_body}
 use Rattle.schema_build.specs.Least.{least_of}
 use Rattle.schema_build.specs.LinkProperties.{is_required, is_multi, repeated_items}
@@ -26,9 +26,9 @@ use Rattle.sdl_ast.specs.declared.member.Pointer.{Pointer}
 use Rattle.sdl_ast.specs.declared.member.PointerBody.{PointerBody}
 use Rattle.sdl_ast.specs.declared.member.PointerBody.TheVariants as body
 use Rattle.sdl_ast.specs.declared.member.PointerKind.{PointerKind}
-use Rattle.store_check.specs.Laws.{is_storable}
-use Rattle.store_check.proofs.NoFlaw.{not_false}
-use Rattle.store_check.proofs.Repeats.{each_joined}
+use Rattle.db_check.specs.Laws.{is_storable}
+use Rattle.db_check.proofs.NoFlaw.{not_false}
+use Rattle.db_check.proofs.Repeats.{each_joined}
 use Rattle.schema_laws.proofs.LinkOrder.{properties_ascend}
 use Rattle.schema_laws.proofs.Passing.{none_sooner, not_at, none_least}
 

@@ -4,13 +4,13 @@ use Rattle.std.proofs.lemmas.Slice.Eq.{bytes_eq-Decides}
 use Rattle.std.specs.List.{list_any}
 use Rattle.std.specs.Str.{bytes_eq}
 use Rattle.ev_list.specs.Occurrence.{has_repeat}
-use Rattle.obj_store.specs.Fits.{Each}
+use Rattle.db_store.specs.Fits.{Each}
 use Rattle.schema_build.specs.Lineage.{shares}
 use Rattle.schema_build.specs.Names.{place_of, is_among}
-use Rattle.store_check.specs.Laws.{NamesDiffer}
-use Rattle.store_check.proofs.IdOrder.{each_more}
-use Rattle.store_check.proofs.NoFlaw.{neither, each_not}
-use Rattle.store_check.proofs.Repeats.{each_joined}
+use Rattle.db_check.specs.Laws.{NamesDiffer}
+use Rattle.db_check.proofs.IdOrder.{each_more}
+use Rattle.db_check.proofs.NoFlaw.{neither, each_not}
+use Rattle.db_check.proofs.Repeats.{each_joined}
 
 abbrev pub itself : List ℕ → List ℕ
 itself x = x

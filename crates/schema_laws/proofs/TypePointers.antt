@@ -8,14 +8,14 @@ use Rattle.ev_schema.specs.Facts.{id_info}
 use Rattle.ev_schema.specs.Types.{pointers_if_known, listed_pointers}
 use Rattle.ev_schema.specs.declared.pointer.PtrInfo.{PtrInfo}
 use Rattle.ev_schema.specs.declared.types.TypeInfo.{TypeInfo}
-use Rattle.obj_store.specs.Fits.{Each, name_of}
+use Rattle.db_store.specs.Fits.{Each, name_of}
 use Rattle.schema_build.specs.Least.{at_if}
 use Rattle.schema_build.specs.Lineage.{or_none, at, pointer_names, declared_names, repeats_a_name, line_shares_a_name, clashes, clashing_from, clashing}
 use Rattle.schema_build.specs.Made.{pointers_from, declared_numbers, pointers_along, infos_from}
 use Rattle.sdl_ast.specs.declared.declaration.Decl.{Decl}
 use Rattle.sdl_ast.specs.declared.declaration.Decl.TheVariants as decl
-use Rattle.store_check.specs.Laws.{NamesDiffer}
-use Rattle.store_check.proofs.NoFlaw.{neither}
+use Rattle.db_check.specs.Laws.{NamesDiffer}
+use Rattle.db_check.proofs.NoFlaw.{neither}
 use Rattle.schema_laws.proofs.Passing.{none_sooner, not_at}
 use Rattle.schema_laws.proofs.Texts.{Differ, joint, differ_of, groups_differ, named_differ}
 use Rattle.schema_laws.proofs.Numbered.{at_front, one_more, named, groups_named, name_in, pointers_named}

@@ -2,13 +2,13 @@
 use Rattle.std.specs.Prelude.{◌≡◌, List, [], Ok}
 use Rattle.ev_schema.specs.Facts.{made_of}
 use Rattle.ev_schema.specs.declared.schema.Schema.{Schema}
-use Rattle.obj_draft.specs.declared.draft.ObjectDraft.{ObjectDraft}
-use Rattle.obj_store.specs.Fits.{Fits}
+use Rattle.db_draft.specs.declared.draft.ObjectDraft.{ObjectDraft}
+use Rattle.db_store.specs.Fits.{Fits}
 use Rattle.schema_build.specs.Verdict.{IsAnswer}
 use Rattle.sdl_ast.specs.declared.declaration.SdlFile.{SdlFile}
-use Rattle.store_check.specs.Check.{checked}
-use Rattle.store_check.specs.Laws.{IsWellFormedSchema}
-use Rattle.store_check.specs.declared.store.Store.{Store}
+use Rattle.db_check.specs.Check.{checked}
+use Rattle.db_check.specs.Laws.{IsWellFormedSchema}
+use Rattle.db_check.specs.declared.store.Store.{Store}
 
 -- a schema that is the answer for a text has what a store asks of it
 abbrev pub BuiltSchemasAreWellFormed : Type 0

@@ -1,9 +1,9 @@
 use Rattle.std.proofs.Common.{List, [], ap, ◌∙◌}
 use Rattle.eql_sem.specs.Forms.{strip}
 use Rattle.eql_sem.specs.Parts.{items_in}
-use Rattle.obj_store.specs.declared.object.Object.{Object}
-use Rattle.store_world.specs.StoreWorld.{world_of}
-use Rattle.store_world.specs.View.{view_of}
+use Rattle.db_store.specs.declared.object.Object.{Object}
+use Rattle.eql_world.specs.StoreWorld.{world_of}
+use Rattle.eql_world.specs.View.{view_of}
 use Rattle.edge_run.specs.Modes.{items_over}
 use Rattle.edge_run.proofs.modes.values_over.Goals as goal
 

@@ -1,5 +1,5 @@
 use Rattle.std.proofs.Common.{rules, subst, Ok, Err}
-use Rattle.query_build.specs.Built.{built_query}
+use Rattle.eql_forms.specs.Built.{built_query}
 use Rattle.edge_run.specs.Limits.{IsShort, IsLong}
 use Rattle.edge_run.specs.Query.{IsQuery, IsSurface}
 use Rattle.edge_run.specs.declared.outcome.Doc.TheVariants as doc

@@ -1,7 +1,0 @@
-use Rattle.std.proofs.Common.{◌≡◌, drop, zero}
-use Rattle.draft_heads.specs.Heads.{type_from}
-use Rattle.draft_heads.proofs.identity.type_named.Given as goal
-
--- what is left has what the whole has
-abbrev pub invariant-loop-i : goal.invariant-loop-i
-invariant-loop-i l = type_from l.i (drop l.i l.types) l.name ≡ type_from zero l.types l.name

@@ -1,6 +1,0 @@
-use Rattle.std.proofs.Common.{◌≡◌, drop}
-use Rattle.draft_values.specs.Links.{property_at}
-use Rattle.draft_values.proofs.links.property_at.Given as goal
-
-abbrev pub invariant-loop-property : goal.invariant-loop-property
-invariant-loop-property l = property_at (drop l.property-index l.properties) l.key ≡ property_at l.properties l.key

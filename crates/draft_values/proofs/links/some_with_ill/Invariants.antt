@@ -1,7 +1,0 @@
-use Rattle.std.proofs.Common.{◌≡◌, drop}
-use Rattle.std.specs.List.{list_any}
-use Rattle.draft_values.specs.Links.{is_ill, fields_of}
-use Rattle.draft_values.proofs.links.some_with_ill.Given as goal
-
-abbrev pub invariant-loop-element : goal.invariant-loop-element
-invariant-loop-element l = list_any (λ e. list_any (is_ill l.properties) (fields_of e)) (drop l.element-index l.elements) ≡ list_any (λ e. list_any (is_ill l.properties) (fields_of e)) l.elements

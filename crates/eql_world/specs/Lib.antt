@@ -1,0 +1,5 @@
+pub mod Steps
+pub mod StoreWorld
+pub mod View
+pub mod Worked
+pub mod Laws

@@ -1,4 +1,0 @@
-use Rattle.exact_trial.proofs.read.+read.Given as goal
-
-abbrev pub decreases-read : goal.decreases-read
-decreases-read l = l.depth

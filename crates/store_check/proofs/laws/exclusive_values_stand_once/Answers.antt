@@ -1,5 +1,0 @@
-use Rattle.store_check.proofs.StoreLaws.{exclusive_once}
-use Rattle.store_check.proofs.laws.exclusive_values_stand_once.Goals as goal
-
-pub returns : goal.returns
-returns c = exclusive_once

@@ -1,5 +1,0 @@
-use Rattle.store_check.proofs.StoreLaws.{all_fit}
-use Rattle.store_check.proofs.laws.stores_fit.Goals as goal
-
-pub returns : goal.returns
-returns c = all_fit

@@ -1,4 +1,0 @@
-pub mod Lists
-pub mod Cuts
-pub mod ViewFits
-pub mod SameWorlds

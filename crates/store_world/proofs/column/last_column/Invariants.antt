@@ -1,7 +1,0 @@
-use Rattle.std.proofs.Common.{◌≡◌, drop, None}
-use Rattle.std.specs.Option.{option_copied}
-use Rattle.store_world.specs.StoreWorld.{last_column}
-use Rattle.store_world.proofs.column.last_column.Given as goal
-
-abbrev pub invariant-loop-column : goal.invariant-loop-column
-invariant-loop-column l = last_column (drop l.column-index l.columns) l.pointer (option_copied l.found) ≡ last_column l.columns l.pointer None

@@ -1,6 +1,0 @@
-use Rattle.obj_store.specs.Objects.{as_value}
-use Rattle.store_world.proofs.ColumnLaws.{whole_list}
-use Rattle.store_world.proofs.computing.whole_list_for.Goals as goal
-
-pub returns : goal.returns
-returns c = whole_list c.args.world.now.schema.now c.args.world.now.objects.now c.args.world.now.args.now c.args.world.now.columns.now c.args.expr.now (as_value c.args.object.now) c.in_ok-items.items c.requires c.in_ok-items.ensures

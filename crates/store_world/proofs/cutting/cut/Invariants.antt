@@ -1,7 +1,0 @@
-use Rattle.std.proofs.Common.{◌≡◌, ◌++◌, drop, map, filter}
-use Rattle.obj_store.specs.declared.object.Entry.{Entry}
-use Rattle.store_world.specs.View.{flag_for, cut_entry, is_filled}
-use Rattle.store_world.proofs.cutting.cut.Given as goal
-
-abbrev pub invariant-loop-entry : goal.invariant-loop-entry
-invariant-loop-entry l = l.values ++ filter (λ (e : Entry). is_filled e.value) (map (cut_entry (flag_for l.objects l.flags)) (drop l.entry-index l.object.values)) ≡ filter (λ (e : Entry). is_filled e.value) (map (cut_entry (flag_for l.objects l.flags)) l.object.values)

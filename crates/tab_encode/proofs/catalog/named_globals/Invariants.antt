@@ -1,6 +1,0 @@
-use Rattle.std.proofs.Common.{◌≡◌, ◌++◌, drop}
-use Rattle.tab_encode.specs.Shapes.{named_globals}
-use Rattle.tab_encode.proofs.catalog.named_globals.Given as goal
-
-abbrev pub invariant-loop-global : goal.invariant-loop-global
-invariant-loop-global l = l.all ++ named_globals (drop l.global-index l.globals) ≡ named_globals l.globals

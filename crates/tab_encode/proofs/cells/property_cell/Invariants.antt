@@ -1,6 +1,0 @@
-use Rattle.std.proofs.Common.{◌≡◌, drop}
-use Rattle.tab_encode.specs.Rows.{property_cell}
-use Rattle.tab_encode.proofs.cells.property_cell.Given as goal
-
-abbrev pub invariant-loop-property : goal.invariant-loop-property
-invariant-loop-property l = property_cell (drop l.property-index l.properties) l.name ≡ property_cell l.properties l.name
