@@ -33,6 +33,10 @@ pub tuple_text : (vs : List val.Val) → value_text (Tuple vs) ≡ json_array (m
 unfolding value_text
 tuple_text vs = search (rules, val.the_lemmas)
 
+pub elements_text : (vs : List val.Val) → value_text (value.Array vs) ≡ json_array (map value_text vs)
+unfolding value_text
+elements_text vs = search (rules, val.the_lemmas)
+
 pub null_text : json_text Null ≡ codes "null"
 unfolding json_text
 null_text = search (rules, nested.the_lemmas)

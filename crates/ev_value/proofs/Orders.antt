@@ -8,13 +8,13 @@ use Rattle.std.proofs.lemmas.Cmp.{ranked, int_ranked, tied_itself}
 use Rattle.std.proofs.lemmas.Map.Text.{is_eq-slice_cmp}
 use Rattle.std.proofs.lemmas.Slice.Eq.{bytes_eq-Decides}
 use Rattle.ev_value.specs.Order.{kind, val_cmp, parts_cmp, ValuesAreOrdered}
-use Rattle.ev_value.specs.declared.value.Val.{Val, Int, Str, Id, Obj, Tuple', Row_of-Val, end_of-Val, more_of-Val, out-Val, out-roll-Val}
+use Rattle.ev_value.specs.declared.value.Val.{Val, Int, Str, Id, Obj, Tuple', Array', Row_of-Val, end_of-Val, more_of-Val, out-Val, out-roll-Val}
 use Rattle.ev_value.specs.declared.value.Val as val
-use Rattle.ev_value.specs.declared.value.Val.TheVariants.{Tuple, rolls-Tuple}
+use Rattle.ev_value.specs.declared.value.Val.TheVariants.{Tuple, rolls-Tuple, Array, rolls-Array}
 use Rattle.ev_value.specs.declared.value.Val.TheOpen as open_val
 use denote.Hole.Carrier as carrier
 use mathlib.Core.Former.{list_count, this}
-use Rattle.ev_value.proofs.Trees.{parts, tuple_is, tuple_opens}
+use Rattle.ev_value.proofs.Trees.{parts, tuple_is, tuple_opens, array_is, array_opens}
 
 nat_same : (m n : ℕ) → nat_cmp m n ≡ Equal → m ≡ n
 nat_same m n h = subst (λ o. MatchOrdering o (m < n) (m ≡ n) (n < m)) h (ranked m n (nat_cmp m n) refl)
@@ -47,6 +47,7 @@ mutual
   same (Id m) (Id n) h = ap Id (nat_same m n h)
   same (Obj m) (Obj n) h = ap Obj (nat_same m n h)
   same (Tuple' s vs) (Tuple' t ws) h = tuple_is s vs ∙ ap Tuple (parts_same vs ws h) ∙ sym (tuple_is t ws)
+  same (Array' s vs) (Array' t ws) h = array_is s vs ∙ ap Array (parts_same vs ws h) ∙ sym (array_is t ws)
   same _ _ h = cc
 
   parts_same : {m n : _} → (vs : Row_of-Val m) (ws : Row_of-Val n) → parts_cmp vs ws ≡ Equal → parts vs ≡ parts ws
@@ -69,6 +70,7 @@ mutual
   itself (Id n) = tied_itself nat_cmp_total n
   itself (Obj n) = tied_itself nat_cmp_total n
   itself (Tuple' s vs) = parts_itself vs
+  itself (Array' s vs) = parts_itself vs
 
   parts_itself : {m : _} → (vs : Row_of-Val m) → parts_cmp vs vs ≡ Equal
   parts_itself end_of-Val = refl
@@ -90,6 +92,7 @@ mutual
   turned (Id m) (Id n) = nat_cmp_total.antisymm m n
   turned (Obj m) (Obj n) = nat_cmp_total.antisymm m n
   turned (Tuple' s vs) (Tuple' t ws) = parts_turned vs ws
+  turned (Array' s vs) (Array' t ws) = parts_turned vs ws
   turned _ _ = refl
 
   parts_turned : {m n : _} → (vs : Row_of-Val m) (ws : Row_of-Val n) → parts_cmp vs ws ≡ ordering_reverse (parts_cmp ws vs)
@@ -107,6 +110,7 @@ kinds_rise (val.Bool a) (val.Bool b) h = omega arith
 kinds_rise (Id m) (Id n) h = omega arith
 kinds_rise (Obj m) (Obj n) h = omega arith
 kinds_rise (Tuple' s vs) (Tuple' t ws) h = omega arith
+kinds_rise (Array' s vs) (Array' t ws) h = omega arith
 kinds_rise v w h = subst (λ o. MatchOrdering o (kind v < kind w) (kind v ≡ kind w) (kind w < kind v) → kind v ≤ kind w) (sym h) (λ (less : kind v < kind w). omega arith) (ranked (kind v) (kind w) _ refl)
 
 nat_less : (m n : ℕ) → m < n → nat_cmp m n ≡ Less
@@ -121,6 +125,7 @@ apart (val.Bool a) (val.Bool b) h = absurd (omega arith)
 apart (Id m) (Id n) h = absurd (omega arith)
 apart (Obj m) (Obj n) h = absurd (omega arith)
 apart (Tuple' s vs) (Tuple' t ws) h = absurd (omega arith)
+apart (Array' s vs) (Array' t ws) h = absurd (omega arith)
 apart v w h = nat_less (kind v) (kind w) h
 
 then_chain : (uv vw uw : Ordering) (uvs vws uws : Ordering) → (uv ≡ Less → vw ≡ Less → uw ≡ Less) → (uv ≡ Equal → uw ≡ vw) → (vw ≡ Equal → uw ≡ uv) → (uvs ≡ Less → vws ≡ Less → uws ≡ Less)
@@ -143,6 +148,7 @@ mutual
   chain (Id l) (Id m) (Id n) h k = nat_cmp_total.trans l m n h k
   chain (Obj l) (Obj m) (Obj n) h k = nat_cmp_total.trans l m n h k
   chain (Tuple' r us) (Tuple' s vs) (Tuple' t ws) h k = parts_chain us vs ws h k
+  chain (Array' r us) (Array' s vs) (Array' t ws) h k = parts_chain us vs ws h k
   chain u v w h k = apart u w (omega (arith, kinds_rise u v h, kinds_rise v w k))
 
   parts_chain : {l m n : _} → (us : Row_of-Val l) (vs : Row_of-Val m) (ws : Row_of-Val n) → parts_cmp us vs ≡ Less → parts_cmp vs ws ≡ Less → parts_cmp us ws ≡ Less
@@ -161,7 +167,7 @@ val_cmp_total = record { antisymm = turned; trans = chain; congr = λ u v w e. a
 pub values_ordered : ValuesAreOrdered
 values_ordered = (val_cmp_total, λ v w. (same v w, λ e. subst (λ x. val_cmp v x ≡ Equal) e (itself v)))
 
--- the components decide between tuples
+-- the components decide between tuples, and the elements between arrays
 parts_are : {m n : _} → (vs : Row_of-Val m) (ws : Row_of-Val n) → parts_cmp vs ws ≡ slice_cmp val_cmp (parts vs) (parts ws)
 unfolding parts_cmp
 parts_are end_of-Val end_of-Val = refl
@@ -183,6 +189,21 @@ tuples_open v w vs ws e f = cc
 -- tuples are ordered as the lists of their components
 pub tuple_cmp : (vs ws : List Val) → val_cmp (Tuple vs) (Tuple ws) ≡ slice_cmp val_cmp vs ws
 tuple_cmp vs ws = tuples_open (Tuple vs) (Tuple ws) vs ws (ap out-Val (sym (rolls-Tuple vs)) ∙ out-roll-Val (open_val.Tuple vs)) (ap out-Val (sym (rolls-Tuple ws)) ∙ out-roll-Val (open_val.Tuple ws))
+
+arrays_open : (v w : Val) (vs ws : List Val) → out-Val v ≡ open_val.Array vs → out-Val w ≡ open_val.Array ws → val_cmp v w ≡ slice_cmp val_cmp vs ws
+unfolding val_cmp out-Val carrier.out
+arrays_open (Array' s v) (Array' t w) vs ws e f =
+    let vs_are : parts v ≡ vs = opened (sym (array_opens s v) ∙ e) in
+    let ws_are : parts w ≡ ws = opened (sym (array_opens t w) ∙ f) in
+    parts_are v w ∙ ap (λ xs. slice_cmp val_cmp xs (parts w)) vs_are ∙ ap (slice_cmp val_cmp vs) ws_are
+  where
+    opened : {xs ys : List Val} → open_val.Array xs ≡ open_val.Array ys → xs ≡ ys
+    opened e = cc
+arrays_open v w vs ws e f = cc
+
+-- arrays are ordered as the lists of their elements
+pub array_cmp : (vs ws : List Val) → val_cmp (Array vs) (Array ws) ≡ slice_cmp val_cmp vs ws
+array_cmp vs ws = arrays_open (Array vs) (Array ws) vs ws (ap out-Val (sym (rolls-Array vs)) ∙ out-roll-Val (open_val.Array vs)) (ap out-Val (sym (rolls-Array ws)) ∙ out-roll-Val (open_val.Array ws))
 
 drop_none : (i : ℕ) → drop {A = Val} i [] ≡ []
 drop_none zero = refl
@@ -233,6 +254,14 @@ tuple'_apart s vs w h = refl
 
 pub tuple_apart : (vs : List Val) (w : Val) → ((ws : List Val) → w ≡ Tuple ws → ⊥) → val_cmp (Tuple vs) w ≡ nat_cmp 5 (kind w)
 tuple_apart vs w h = tuple'_apart _ _ w h
+
+array'_apart : (s : List (Unit {0})) (vs : Row_of-Val (list_count (this {0}) s 0)) (w : Val) → ((ws : List Val) → w ≡ Array ws → ⊥) → val_cmp (Array' s vs) w ≡ nat_cmp 6 (kind w)
+unfolding val_cmp
+array'_apart s vs (Array' t ws) h = absurd (h (parts ws) (array_is t ws))
+array'_apart s vs w h = refl
+
+pub array_apart : (vs : List Val) (w : Val) → ((ws : List Val) → w ≡ Array ws → ⊥) → val_cmp (Array vs) w ≡ nat_cmp 6 (kind w)
+array_apart vs w h = array'_apart _ _ w h
 
 -- what the code compares where the kinds differ
 pub by_kinds : (v w x : Val) (m n : ℕ) (o : Ordering) → o ≡ nat_cmp m n → m ≡ kind v → n ≡ kind w → v ≡ x → val_cmp x w ≡ nat_cmp (kind x) (kind w) → o ≡ val_cmp v w

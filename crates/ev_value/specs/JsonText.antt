@@ -91,6 +91,7 @@ value_step (Val-F.Bool b) = if b then codes "true" else codes "false"
 value_step (Val-F.Id n) = json_string (id_text n)
 value_step (Val-F.Obj n) = json_object ((codes "id", json_string (id_text n)) ∷ [])
 value_step (Val-F.Tuple parts) = json_array parts
+value_step (Val-F.Array elements) = json_array elements
 
 -- the JSON text of a value: an object without a shape is written as its id
 unfoldable pub value_text : Val → List ℕ

@@ -5,7 +5,7 @@ use Rattle.std.specs.Cmp.Lexicographic.{slice_cmp}
 use Rattle.std.specs.declared.cmp.Ordering.{Ordering}
 use Rattle.std.specs.declared.cmp.Ordering.TheVariants.{Less, Equal, Greater}
 use Rattle.std.specs.Ordering.{nat_cmp, int_cmp, bool_cmp, ordering_then}
-use Rattle.ev_value.specs.declared.value.Val.{Val, Int, Str, Bool, Id, Obj, Tuple', Row_of-Val, end_of-Val, more_of-Val}
+use Rattle.ev_value.specs.declared.value.Val.{Val, Int, Str, Bool, Id, Obj, Tuple', Array', Row_of-Val, end_of-Val, more_of-Val}
 
 -- the place of a value's kind among the kinds
 abbrev pub kind : Val → ℕ
@@ -15,9 +15,10 @@ kind (Bool _) = 2
 kind (Id _) = 3
 kind (Obj _) = 4
 kind (Tuple' _ _) = 5
+kind (Array' _ _) = 6
 
 unfoldable mutual
-  -- numbers by size, texts by their bytes, false before true, ids by number, tuples by their components; else by kind
+  -- numbers by size, texts by their bytes, false before true, ids by number, tuples by their components, arrays by their elements; else by kind
   pub val_cmp : Val → Val → Ordering
   val_cmp (Int a) (Int b) = int_cmp a b
   val_cmp (Str s) (Str t) = slice_cmp nat_cmp s t
@@ -25,9 +26,10 @@ unfoldable mutual
   val_cmp (Id m) (Id n) = nat_cmp m n
   val_cmp (Obj m) (Obj n) = nat_cmp m n
   val_cmp (Tuple' _ v) (Tuple' _ w) = parts_cmp v w
+  val_cmp (Array' _ v) (Array' _ w) = parts_cmp v w
   val_cmp v w = nat_cmp (kind v) (kind w)
 
-  -- components from the left; a proper prefix is less
+  -- components or elements from the left; a proper prefix is less
   pub parts_cmp : {m n : _} → Row_of-Val m → Row_of-Val n → Ordering
   parts_cmp end_of-Val end_of-Val = Equal
   parts_cmp end_of-Val (more_of-Val w ws) = Less

@@ -22,11 +22,13 @@ fn kind_of(value: &Val) -> u8
         Val::Id(_) => 3,
         Val::Obj(_) => 4,
         Val::Tuple(_) => 5,
+        Val::Array(_) => 6,
     }
 }
 
 /// Compares two values: numbers by size, texts by their bytes, false before true, ids by their bytes, tuples by their
-/// components from the left, where a proper prefix is less. Values of different kinds are ordered as `Val` lists them.
+/// components and arrays by their elements from the left, where a proper prefix is less. Values of different kinds are
+/// ordered as `Val` lists them.
 #[cycle(order)]
 pub fn cmp_val(left: &Val, right: &Val) -> Ordering
     ensures { result ≡ val_cmp left.now right.now }
@@ -38,6 +40,7 @@ pub fn cmp_val(left: &Val, right: &Val) -> Ordering
         (Val::Id(a), Val::Id(b)) => a.cmp(b),
         (Val::Obj(a), Val::Obj(b)) => a.cmp(b),
         (Val::Tuple(a), Val::Tuple(b)) => cmp_vals(a.as_slice(), b.as_slice()),
+        (Val::Array(a), Val::Array(b)) => cmp_vals(a.as_slice(), b.as_slice()),
         _ => kind_of(left).cmp(&kind_of(right)),
     }
 }

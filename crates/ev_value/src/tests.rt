@@ -184,6 +184,7 @@ fn values_are_ordered(rt: HostRuntime) -> Result<(), Fail> {
     assert!(rt; precedes(&Val::Id(0), &Val::Id(u128::MAX)));
     assert!(rt; precedes(&Val::Id(u128::MAX), &Val::Obj(0)));
     assert!(rt; precedes(&Val::Obj(1), &Val::Tuple(List::new(alloc))));
+    assert!(rt; precedes(&tuple(alloc, &[2])?, &Val::Array(List::new(alloc))));
     Ok(())
 }
 
@@ -222,6 +223,26 @@ fn tuples_are_ordered_from_the_left(rt: HostRuntime) -> Result<(), Fail> {
     let short = tuple(alloc, &[1])?;
     let long = tuple(alloc, &[1, -5])?;
     let later = tuple(alloc, &[2])?;
+    assert!(rt; precedes(&short, &long));
+    assert!(rt; precedes(&long, &later));
+    assert!(rt; cmp_val(&long.copied(alloc)?, &long) == Ordering::Equal);
+    Ok(())
+}
+
+fn array(alloc: Global, numbers: &[i64]) -> Result<Val, AllocError> {
+    let mut elements = List::new(alloc);
+    for number in numbers {
+        elements.push(Val::Int(*number))?;
+    }
+    Ok(Val::Array(elements))
+}
+
+#[test]
+fn arrays_are_ordered_from_the_left(rt: HostRuntime) -> Result<(), Fail> {
+    let alloc = rt.alloc();
+    let short = array(alloc, &[1])?;
+    let long = array(alloc, &[1, 0])?;
+    let later = array(alloc, &[2])?;
     assert!(rt; precedes(&short, &long));
     assert!(rt; precedes(&long, &later));
     assert!(rt; cmp_val(&long.copied(alloc)?, &long) == Ordering::Equal);

@@ -26,6 +26,8 @@ pub enum Val {
     /// An object, by its id in the same form.
     Obj(u128),
     Tuple(Items<Val>),
+    /// Values of one scalar type.
+    Array(Items<Val>),
 }
 
 impl Val {
@@ -41,6 +43,7 @@ impl Val {
             Val::Id(id) => Ok(Val::Id(*id)),
             Val::Obj(id) => Ok(Val::Obj(*id)),
             Val::Tuple(parts) => Ok(Val::Tuple(copied_values(alloc, parts.as_slice())?)),
+            Val::Array(elements) => Ok(Val::Array(copied_values(alloc, elements.as_slice())?)),
         }
     }
 }
