@@ -5,10 +5,11 @@ ghost use Rattle.std.specs.Option.{option_copied};
 ghost use Rattle.ev_schema.specs.Types.{is_subtype as is_subtype_in, same_type, ancestors as ancestors_in};
 ghost use Rattle.ev_schema.specs.Policies.{rules_of as rules_of_in, has_rules as has_rules_in, governed_below, named_rules as named_rules_in, name_if_known, by_name as by_name_order};
 
+use crate::named::BY_NAME;
 use crate::policy::Policy;
 use crate::types::TypeInfo;
 use core_ir::TypeId;
-use ev_list::{Absent, Direction, KeyOrder, Keyed, in_order, keyless};
+use ev_list::{Keyed, in_order, keyless};
 use ev_value::{List, Val};
 use std::alloc::{AllocError, Global};
 
@@ -82,12 +83,6 @@ fn named_rules(
     }
     Ok(rules)
 }
-
-/// By names, in byte order.
-const BY_NAME: KeyOrder = KeyOrder {
-    direction: Direction::Ascending,
-    absent: Absent::First,
-};
 
 /// The numbers of the rules that hold for a type.
 pub fn rules_of(

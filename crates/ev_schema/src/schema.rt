@@ -1,12 +1,14 @@
 //! The schema as a whole.
-ghost use Rattle.std.specs.Prelude.{◌≡◌, ◌<◌, ◌^◌, ◌++◌, ◌∷◌, [], length, codes, slice_get, IfOk, OnOk, OnErr, Some, None};
+ghost use Rattle.std.specs.Prelude.{◌≡◌, ◌<◌, ◌^◌, ◌++◌, ◌∷◌, [], length, codes, slice_get, option_map, IfOk, OnOk, OnErr, Some, None};
 ghost use Rattle.std.specs.Option.{option_copied};
 ghost use Rattle.core_ir.specs.Card.{card_with, most};
-ghost use Rattle.ev_schema.specs.Facts.{made_of, id_info, with_conditions as with_conditions_of, with_computed};
+ghost use Rattle.ev_schema.specs.Facts.{made_of, id_info, with_conditions as with_conditions_of, with_computed, bounded as bounded_of};
+ghost use Rattle.ev_schema.specs.Named.{type_named as type_named_in, pointers_in_order as pointers_in_order_of};
 ghost use Rattle.ev_schema.specs.Types.{is_subtype as is_subtype_in, listed_pointers as listed_pointers_in};
 ghost use Rattle.ev_schema.specs.Policies.{rules_of as rules_of_in};
 ghost use Rattle.ev_schema.specs.Pointers.{pointer_named, first_named, id_named, id_pointer, is_id as is_id_in, has_name as has_name_of, computed_among, weakened as weakened_of, target_of as target_of_body};
 
+use crate::named::{pointers_in_order, type_named};
 use crate::pointer::{Body, Computed, Limit, PtrInfo};
 use crate::policy::Policy;
 use crate::rules::{is_governed, is_subtype, rules_of};
@@ -81,6 +83,21 @@ fn target_of(body: &Body) -> Option<TypeId>
     }
 }
 
+/// A pointer among some within other bounds, in memory of its own.
+fn bounded_among(
+    alloc: Global,
+    pointers: &[PtrInfo],
+    pointer: PtrId,
+    card: Card,
+) -> Result<Option<PtrInfo>, AllocError>
+    ensures { IfOk result (λ o. o ≡ option_map (bounded_of card) (slice_get pointers.now pointer.0)) }
+{
+    match at(pointers, pointer.0 as usize) {
+        Some(info) => Ok(Some(info.bounded(alloc, card)?)),
+        None => Ok(None),
+    }
+}
+
 /// The same most, and none at least.
 fn or_none(card: Card) -> Card
     ensures { result ≡ card_with 0 (most card) }
@@ -116,13 +133,20 @@ impl Schema {
         })
     }
 
-    /// The expression of one more computed pointer.
-    pub fn set_computed(&mut self, computed: Computed) -> Result<(), AllocError>
+    /// The expression of one more computed pointer. Its bounds are those of the pointer from then on.
+    pub fn set_computed(&mut self, alloc: Global, computed: Computed) -> Result<(), AllocError>
         requires { computed_among self.old.computed computed.pointer ≡ None }
         ensures ok { OnOk result (self.new ≡ with_computed computed self.old) }
         ensures err { OnErr result (self.new ≡ self.old) }
     {
-        self.computed.push(computed)
+        let pointer = computed.pointer;
+        let pointers = self.pointers.as_slice();
+        let bounded = bounded_among(alloc, pointers, pointer, computed.card)?;
+        self.computed.push(computed)?;
+        if let Some(info) = bounded {
+            self.pointers.set(pointer.0 as usize, info);
+        }
+        Ok(())
     }
 
     /// The same schema with the conditions of its rules, one for each.
@@ -163,6 +187,14 @@ impl Schema {
         is_subtype(self.types.as_slice(), ty, of)
     }
 
+    /// The type that has a name, abstract or not.
+    pub fn type_named(&self, name: &str) -> Option<TypeId>
+        requires { length self.now.types < 2 ^ 32 }
+        ensures { result ≡ type_named_in self.now.types name.now }
+    {
+        type_named(self.types.as_slice(), name)
+    }
+
     /// The pointers of a type, those of its ancestors too, but for `id`.
     pub fn listed_pointers(&self, ty: TypeId) -> &[PtrId]
         ensures { result.now ≡ listed_pointers_in self.now.types ty }
@@ -171,6 +203,13 @@ impl Schema {
             Some(info) => info.pointers.as_slice(),
             None => &[],
         }
+    }
+
+    /// The same pointers in byte order of their names.
+    pub fn pointers_in_order(&self, alloc: Global, ty: TypeId) -> Result<List<PtrId>, AllocError>
+        ensures { IfOk result (λ l. l ≡ pointers_in_order_of self.now ty) }
+    {
+        pointers_in_order(alloc, self.pointers.as_slice(), self.listed_pointers(ty))
     }
 
     /// The pointer `id`.
