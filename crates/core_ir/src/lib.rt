@@ -20,7 +20,7 @@ pub use path::{Path, PtrId, Root, Step, TypeId, alike, copied_steps, paths_are_e
 pub use phase::{Carded, Core, Guarded, Typed};
 pub use scoped_paths::{ScopedPath, occurrences};
 pub use tree::{
-    Alias, Conditional, Direct, Element, Expr, Key, Need, Occurrence, Order, Scope, Select,
+    Alias, Conditional, Direct, Element, Expr, Key, Misfit, Need, Occurrence, Order, Scope, Select,
     SetFunction, Width,
 };
 pub use ty::{Ty, copied_types};
