@@ -7,6 +7,8 @@ use Rattle.ev_value.specs.declared.value.ScalarTy.{ScalarTy}
 use Rattle.ev_list.specs.declared.param.Param.{Param}
 use Rattle.ev_list.specs.declared.order.Absent.{Absent}
 use Rattle.core_ir.specs.declared.path.Path.{Path}
+use Rattle.core_ir.specs.declared.ty.Ty.{Ty}
+use Rattle.core_ir.specs.declared.tree.Misfit.{Misfit}
 use Rattle.core_ir.specs.declared.tree.Occurrence.{Occurrence}
 use Rattle.core_ir.specs.declared.tree.Scope.{Scope}
 use Rattle.core_ir.specs.declared.tree.SetFunction.{SetFunction}
@@ -135,7 +137,7 @@ module _ (bound : List Path) where
     inside_coalesce x s = λ i. single x i ++ tree_of bound s ∷ []
 
     choice : (d : Order) (c : Expr) (s t : Scope) (f g h : _)
-        → inside (e.If' m d f (block.hidden-the_row-Expr-0 c) s.start g (block.hidden-the_row-Expr-0 s.body) t.start h (block.hidden-the_row-Expr-0 t.body)) bound
+        → inside (e.If' m d f (block.hidden-the_row-Expr-0 c) s.start s.ty g (block.hidden-the_row-Expr-0 s.body) t.start t.ty h (block.hidden-the_row-Expr-0 t.body)) bound
         ≡ in_order d (inside c bound) (tree_of bound s ∷ []) (tree_of bound t ∷ [])
     unfolding inside carrier.hidden block.hidden-the_row-Expr-0
     choice order.ValueFirst c s t f g h = λ i. tree_of bound s ∷ single c i ++ tree_of bound t ∷ []
@@ -144,23 +146,43 @@ module _ (bound : List Path) where
     pub inside_if : (c : Conditional) → inside (form.If m c) bound ≡ in_order c.order (inside c.condition bound) (tree_of bound c.value ∷ []) (tree_of bound c.other ∷ [])
     inside_if c = choice c.order c.condition c.value c.other _ _ _
 
-pub inside_shaped : (bound : List Path) (m : ℕ) (x : Expr) (k : ℕ) (es : List Element)
-    → inside (form.Shaped m x k es) bound ≡ inside x bound ++ map (tree_of_element (subject k ∷ bound)) es
+    pub inside_array : (t : Option ScalarTy) (xs : List Expr) → inside (form.Array m t xs) bound ≡ flat_map (inside_of bound) xs
+    unfolding inside
+    inside_array t xs = row xs
+
+    pub inside_array_cast : (t : ScalarTy) (x : Expr) → inside (form.ArrayCast m t x) bound ≡ inside x bound
+    unfolding inside
+    inside_array_cast t x = single x
+
+    pub inside_unpack : (x : Expr) → inside (form.Unpack m x) bound ≡ inside x bound
+    unfolding inside
+    inside_unpack x = single x
+
+    pub inside_empty_set : (t : Ty) → inside (form.EmptySet m t) bound ≡ []
+    unfolding inside
+    inside_empty_set t = refl
+
+    pub inside_unfit : (f : Misfit) (k : ℕ) (xs : List Expr) → inside (form.Unfit m f k xs) bound ≡ flat_map (inside_of bound) xs
+    unfolding inside
+    inside_unfit f k xs = row xs
+
+pub inside_shaped : (bound : List Path) (m : ℕ) (x : Expr) (y : Option Ty) (k : ℕ) (es : List Element)
+    → inside (form.Shaped m x y k es) bound ≡ inside x bound ++ map (tree_of_element (subject k ∷ bound)) es
 unfolding inside
-inside_shaped bound m x k es = λ i. single bound x i ++ elements (subject k ∷ bound) es i
+inside_shaped bound m x y k es = λ i. single bound x i ++ elements (subject k ∷ bound) es i
 
 pub inside_for : (bound : List Path) (m : ℕ) (xs : List Alias) (k : ℕ) (s t : Scope)
     → inside (form.For m xs k s t) bound ≡ tree_of_loop bound m k s t ∷ map (tree_of_alias bound) xs
 unfolding inside carrier.hidden block.hidden-the_row-Expr-0
 inside_for bound m xs k s t = λ i. tree_of_loop bound m k s t ∷ aliases bound xs i
 
-rolled : (bound : List Path) (m : ℕ) (xs : List Alias) (x : Expr) (k : ℕ) (f : Option Scope) (ks : List Key) (o l : Option Scope)
-    → inside (form.Select m xs (roll-Select (record { subject = x; number = k; filter = f; keys = ks; offset = o; limit = l }))) bound
+rolled : (bound : List Path) (m : ℕ) (xs : List Alias) (x : Expr) (y : Option Ty) (k : ℕ) (f : Option Scope) (ks : List Key) (o l : Option Scope)
+    → inside (form.Select m xs (roll-Select (record { subject = x; ty = y; number = k; filter = f; keys = ks; offset = o; limit = l }))) bound
     ≡ scope_with m (direct x false) (all x ++ all_if_there f ++ flat_map all_of_key ks)
     (λ qs. inside x qs ++ trees_of_clause (subject k ∷ qs) f ++ flat_map (trees_of_key (subject k ∷ qs)) ks) bound
     ∷ (map (tree_of_alias bound) xs ++ trees_of_clause bound o ++ trees_of_clause bound l)
 unfolding inside roll-Select carrier.roll carrier.hidden block.hidden-the_row-Expr-0
-rolled bound m xs x k f ks o l =
+rolled bound m xs x y k f ks o l =
     λ i. scope_with m (direct x false) (all x ++ laws.clause f i ++ laws.keys ks i)
     (λ qs. inside x qs ++ clause (subject k ∷ qs) f i ++ keys (subject k ∷ qs) ks i) bound
     ∷ (aliases bound xs i ++ clause bound o i ++ clause bound l i)
@@ -170,6 +192,6 @@ pub inside_select : (bound : List Path) (m : ℕ) (xs : List Alias) (s : Select)
     ≡ tree_of_rows bound m s ∷ (map (tree_of_alias bound) xs ++ trees_of_clause bound (out-Select s).offset ++ trees_of_clause bound (out-Select s).limit)
 inside_select bound m xs s =
     let r = out-Select s in
-    ap (λ s. inside (form.Select m xs s) bound) (sym (roll-out-Select s)) ∙ rolled bound m xs r.subject r.number r.filter r.keys r.offset r.limit
+    ap (λ s. inside (form.Select m xs s) bound) (sym (roll-out-Select s)) ∙ rolled bound m xs r.subject r.ty r.number r.filter r.keys r.offset r.limit
 
-pub ruleset inside_forms = (append_assoc, append-nil, inside_literal, inside_param, inside_global, inside_path, inside_on_base, inside_operation, inside_plus, inside_cast, inside_tuple, inside_optional_equal, inside_in_set, inside_of_set, inside_union, inside_set, inside_coalesce, inside_if, inside_shaped, inside_for, inside_select, inside_ascending, inside_descending)
+pub ruleset inside_forms = (append_assoc, append-nil, inside_literal, inside_param, inside_global, inside_path, inside_on_base, inside_operation, inside_plus, inside_cast, inside_tuple, inside_optional_equal, inside_in_set, inside_of_set, inside_union, inside_set, inside_coalesce, inside_if, inside_array, inside_array_cast, inside_unpack, inside_empty_set, inside_unfit, inside_shaped, inside_for, inside_select, inside_ascending, inside_descending)

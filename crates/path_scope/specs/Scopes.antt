@@ -27,33 +27,37 @@ scope_with start ds os inside bound = let fs = factored ds os bound in scope_of 
 unfoldable mutual
   -- The scopes directly inside an expression, in the order of their first bytes, where these paths are bound around it.
   pub inside : Expr → List Path → List ScopeTree
-  inside (e.OnBase' _ start _ (more_of-Expr base end_of-Expr) _) bound = scope_with start (direct base false) (all base) (inside base) bound ∷ []
+  inside (e.OnBase' _ start _ _ (more_of-Expr base end_of-Expr) _) bound = scope_with start (direct base false) (all base) (inside base) bound ∷ []
   inside (e.Operation' _ _ _ operands) bound = inside_all operands bound
   inside (e.Plus' _ _ operand) bound = inside_all operand bound
   inside (e.Cast' _ _ _ operand) bound = inside_all operand bound
   inside (e.Tuple' _ _ parts) bound = inside_all parts bound
   inside (e.OptionalEqual' _ _ _ left _ right) bound = inside_all left bound ++ inside_all right bound
-  inside (e.In' _ _ _ left start _ (more_of-Expr set end_of-Expr)) bound =
+  inside (e.In' _ _ _ left start _ _ (more_of-Expr set end_of-Expr)) bound =
       inside_all left bound ++ scope_with start (direct set false) (all set) (inside set) bound ∷ []
-  inside (e.OfSet' _ _ start _ (more_of-Expr set end_of-Expr)) bound = scope_with start (direct set false) (all set) (inside set) bound ∷ []
-  inside (e.Union' _ s _ (more_of-Expr x end_of-Expr) t _ (more_of-Expr y end_of-Expr)) bound =
+  inside (e.OfSet' _ _ start _ _ (more_of-Expr set end_of-Expr)) bound = scope_with start (direct set false) (all set) (inside set) bound ∷ []
+  inside (e.Union' _ s _ _ (more_of-Expr x end_of-Expr) t _ _ (more_of-Expr y end_of-Expr)) bound =
       scope_with s (direct x false) (all x) (inside x) bound ∷ scope_with t (direct y false) (all y) (inside y) bound ∷ []
   inside (e.Set' _ _ elements) bound = scopes elements bound
-  inside (e.Coalesce' _ _ first start _ (more_of-Expr y end_of-Expr)) bound =
+  inside (e.Coalesce' _ _ first start _ _ (more_of-Expr y end_of-Expr)) bound =
       inside_all first bound ++ scope_with start (direct y false) (all y) (inside y) bound ∷ []
-  inside (e.If' _ order.ValueFirst _ c s _ (more_of-Expr x end_of-Expr) t _ (more_of-Expr y end_of-Expr)) bound =
+  inside (e.If' _ order.ValueFirst _ c s _ _ (more_of-Expr x end_of-Expr) t _ _ (more_of-Expr y end_of-Expr)) bound =
       scope_with s (direct x false) (all x) (inside x) bound ∷ inside_all c bound ++ scope_with t (direct y false) (all y) (inside y) bound ∷ []
-  inside (e.If' _ order.ConditionFirst _ c s _ (more_of-Expr x end_of-Expr) t _ (more_of-Expr y end_of-Expr)) bound =
+  inside (e.If' _ order.ConditionFirst _ c s _ _ (more_of-Expr x end_of-Expr) t _ _ (more_of-Expr y end_of-Expr)) bound =
       inside_all c bound ++ scope_with s (direct x false) (all x) (inside x) bound ∷ scope_with t (direct y false) (all y) (inside y) bound ∷ []
-  inside (e.Shaped' _ _ x k _ elements) bound = inside_all x bound ++ element_scopes elements (subject k ∷ bound)
+  inside (e.Shaped' _ _ x _ k _ elements) bound = inside_all x bound ++ element_scopes elements (subject k ∷ bound)
   -- a statement is a scope; its aliases, offset and limit stand beside it, and its subject is bound in its clauses
-  inside (e.Select' start _ aliases (Select' _ (more_of-Expr x end_of-Expr) k filter _ keys offset limit)) bound =
+  inside (e.Select' start _ aliases (Select' _ (more_of-Expr x end_of-Expr) _ k filter _ keys offset limit)) bound =
       scope_with start (direct x false) (all x ++ all_of_clause filter ++ all_of_keys keys)
       (λ qs. inside x qs ++ clause_scopes filter (subject k ∷ qs) ++ key_scopes keys (subject k ∷ qs)) bound
       ∷ (alias_scopes aliases bound ++ clause_scopes offset bound ++ clause_scopes limit bound)
-  inside (e.For' start _ aliases k s _ (more_of-Expr x end_of-Expr) t _ (more_of-Expr y end_of-Expr)) bound =
+  inside (e.For' start _ aliases k s _ _ (more_of-Expr x end_of-Expr) t _ _ (more_of-Expr y end_of-Expr)) bound =
       scope_of start [] (scope_with s (direct x false) (all x) (inside x) bound ∷ scope_with t (direct y false) (all y) (inside y) (variable k ∷ bound) ∷ [])
       ∷ alias_scopes aliases bound
+  inside (e.Array' _ _ _ elements) bound = inside_all elements bound
+  inside (e.ArrayCast' _ _ _ operand) bound = inside_all operand bound
+  inside (e.Unpack' _ _ operand) bound = inside_all operand bound
+  inside (e.Unfit' _ _ _ _ parts) bound = inside_all parts bound
   inside _ bound = []
 
   pub inside_all : {m : _} → Row_of-Expr m → List Path → List ScopeTree
@@ -62,17 +66,17 @@ unfoldable mutual
 
   pub scopes : {m : _} → Row_of-Scope m → List Path → List ScopeTree
   scopes end_of-Scope bound = []
-  scopes (more_of-Scope start _ (more_of-Expr x end_of-Expr) rest) bound =
+  scopes (more_of-Scope start _ _ (more_of-Expr x end_of-Expr) rest) bound =
       scope_with start (direct x false) (all x) (inside x) bound ∷ scopes rest bound
 
   pub element_scopes : {m : _} → Row_of-Element m → List Path → List ScopeTree
   element_scopes end_of-Element bound = []
-  element_scopes (more_of-Element _ _ _ _ _ _ start _ (more_of-Expr x end_of-Expr) rest) bound =
+  element_scopes (more_of-Element _ _ _ _ _ _ start _ _ (more_of-Expr x end_of-Expr) rest) bound =
       scope_with start (direct x false) (all x) (inside x) bound ∷ element_scopes rest bound
 
   pub alias_scopes : {m : _} → Row_of-Alias m → List Path → List ScopeTree
   alias_scopes end_of-Alias bound = []
-  alias_scopes (more_of-Alias _ start _ (more_of-Expr x end_of-Expr) rest) bound =
+  alias_scopes (more_of-Alias _ start _ _ (more_of-Expr x end_of-Expr) rest) bound =
       scope_with start (direct x false) (all x) (inside x) bound ∷ alias_scopes rest bound
 
   pub clause_scopes : Held-Select-filter → List Path → List ScopeTree
@@ -84,8 +88,8 @@ unfoldable mutual
   key_scopes (more_of-Key k rest) bound = key_scope k bound ++ key_scopes rest bound
 
   pub key_scope : key.Key → List Path → List ScopeTree
-  key_scope (key.Ascending' _ start _ (more_of-Expr x end_of-Expr)) bound = scope_with start (direct x false) (all x) (inside x) bound ∷ []
-  key_scope (key.Descending' _ start _ (more_of-Expr x end_of-Expr)) bound = scope_with start (direct x false) (all x) (inside x) bound ∷ []
+  key_scope (key.Ascending' _ start _ _ (more_of-Expr x end_of-Expr)) bound = scope_with start (direct x false) (all x) (inside x) bound ∷ []
+  key_scope (key.Descending' _ start _ _ (more_of-Expr x end_of-Expr)) bound = scope_with start (direct x false) (all x) (inside x) bound ∷ []
 
 -- what is bound around the outermost scope: nothing in a query, the subject in an expression of a schema
 abbrev pub bound_around : Option TypeId → List Path

@@ -106,14 +106,20 @@ fn inside(
     ensures { OnOk result (out.new ≡ out.old ++ inside_expr expr.now bound.now) }
 {
     match expr {
-        Expr::Literal(..) | Expr::Param(..) | Expr::Global(..) | Expr::Path(..) => Ok(()),
+        Expr::Literal(..)
+        | Expr::Param(..)
+        | Expr::Global(..)
+        | Expr::Path(..)
+        | Expr::EmptySet(..) => Ok(()),
         Expr::OnBase(_, base, _) => add_scope(alloc, base, bound, out),
-        Expr::Operation(_, _, operands) | Expr::Tuple(_, operands) => {
-            inside_all(alloc, operands.as_slice(), bound, out)
-        }
-        Expr::Plus(_, operand) | Expr::Cast(_, _, operand) => {
-            inside(alloc, operand.get(), bound, out)
-        }
+        Expr::Operation(_, _, operands)
+        | Expr::Tuple(_, operands)
+        | Expr::Array(_, _, operands)
+        | Expr::Unfit(_, _, _, operands) => { inside_all(alloc, operands.as_slice(), bound, out) }
+        Expr::Plus(_, operand)
+        | Expr::Cast(_, _, operand)
+        | Expr::ArrayCast(_, _, operand)
+        | Expr::Unpack(_, operand) => { inside(alloc, operand.get(), bound, out) }
         Expr::OptionalEqual(_, _, left, right) => {
             inside(alloc, left.get(), bound, out)?;
             inside(alloc, right.get(), bound, out)
@@ -129,7 +135,7 @@ fn inside(
         }
         Expr::Set(_, elements) => add_scopes(alloc, elements.as_slice(), bound, out),
         Expr::If(_, choice) => inside_choice(alloc, choice, bound, out),
-        Expr::Shaped(_, subject, number, elements) => {
+        Expr::Shaped(_, subject, _, number, elements) => {
             inside(alloc, subject.get(), bound, out)?;
             let within = bound_with(alloc, Root::Subject(*number), bound)?;
             add_elements(alloc, elements.as_slice(), within.as_slice(), out)

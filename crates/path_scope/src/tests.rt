@@ -37,6 +37,7 @@ fn user(alloc: Global, pointers: &[u32]) -> Result<Expr, AllocError> {
 fn scope(alloc: Global, body: Expr) -> Result<Scope, AllocError> {
     Ok(Scope {
         start: 0,
+        ty: None,
         body: Boxed::new(alloc, body)?,
     })
 }
@@ -54,6 +55,7 @@ fn operation(alloc: Global, op: Op, left: Expr, right: Option<Expr>) -> Result<E
 fn query(alloc: Global, subject: Expr, filter: Option<Boxed<Scope>>) -> Result<Core, AllocError> {
     let select = Select {
         subject: Boxed::new(alloc, subject)?,
+        ty: None,
         number: 1,
         filter,
         keys: List::new(alloc),
