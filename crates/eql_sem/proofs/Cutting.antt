@@ -1,12 +1,11 @@
 -- What follows for an offset and a limit is made of the range that they ask for.
-use Rattle.std.proofs.Common.{◌≡◌, Bool, true, false, cond, ℕ, List, [], ◌∷◌, ◌++◌, Option, refl, sym, ap, ◌∙◌}
+use Rattle.std.proofs.Common.{◌≡◌, Bool, true, false, cond, ℕ, List, [], ◌++◌, Option, refl, sym, ap, ◌∙◌}
 use Rattle.ev_value.proofs.Items.{bind_append, bind_assoc, bind_one, bind_same, bind_only_faults}
-use Rattle.ev_value.specs.Item.{bind, both, one, has_fault, faults, only_faults}
+use Rattle.ev_value.specs.Item.{bind, both, has_fault, faults, only_faults}
 use Rattle.ev_value.specs.declared.item.Fault.{Fault}
 use Rattle.ev_value.specs.declared.item.Item.{Item}
 use Rattle.ev_value.specs.declared.value.Val.{Val}
-use Rattle.ev_list.specs.Cut.{limit_of}
-use Rattle.eql_sem.specs.Selects.{first_of, ranged, range_of, ranges}
+use Rattle.eql_sem.specs.Selects.{counted, ranged, range_of, ranges}
 use Rattle.eql_sem.specs.declared.form.Formed.{Formed}
 use Rattle.eql_sem.specs.declared.row.Range.{Range}
 
@@ -24,18 +23,8 @@ both_bind xs ys g h =
 both_same : {A B C : Type 0} (xs : List (Item A)) (ys : List (Item B)) (g h : A → B → List (Item C)) → ((a : A) (b : B) → g a b ≡ h a b) → both xs ys g ≡ both xs ys h
 both_same xs ys g h e = ap (both xs ys) (λ i a b. e a b i)
 
-the_range : Option ℕ → Option ℕ → Range
-the_range o l = record { offset = o; limit = l }
-
-range_then : (x y : Option Val) (f : Option ℕ → Option ℕ → List (Item Formed))
-    → bind (range_of x y) (λ r. f r.offset r.limit) ≡ both (limit_of x ∷ []) (limit_of y ∷ []) f
-unfolding the_range
-range_then x y f =
-    both_bind (limit_of x ∷ []) (limit_of y ∷ []) (λ o l. one (the_range o l)) (λ r. f r.offset r.limit)
-    ∙ both_same (limit_of x ∷ []) (limit_of y ∷ []) (λ o l. bind (one (the_range o l)) (λ r. f r.offset r.limit)) f (λ o l. bind_one (the_range o l) (λ r. f r.offset r.limit))
-
 pub ranged_is : (offset limit : List (Item Val)) (f : Option ℕ → Option ℕ → List (Item Formed)) → ranged offset limit f ≡ bind (ranges offset limit) (λ r. f r.offset r.limit)
 ranged_is offset limit f =
     sym
-    (both_bind (first_of offset) (first_of limit) range_of (λ r. f r.offset r.limit)
-    ∙ both_same (first_of offset) (first_of limit) (λ x y. bind (range_of x y) (λ r. f r.offset r.limit)) (λ x y. both (limit_of x ∷ []) (limit_of y ∷ []) f) (λ x y. range_then x y f))
+    (both_bind (counted offset) (counted limit) range_of (λ r. f r.offset r.limit)
+    ∙ both_same (counted offset) (counted limit) (λ o l. bind (range_of o l) (λ r. f r.offset r.limit)) f (λ o l. bind_one {A = Range} (record { offset = o; limit = l }) (λ r. f r.offset r.limit)))

@@ -2,3 +2,4 @@ pub mod Products
 pub mod Equations
 pub mod LongestPrefix
 pub mod Cutting
+pub mod ValueForms

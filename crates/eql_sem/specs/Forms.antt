@@ -1,8 +1,9 @@
 -- Items with their forms.
-use Rattle.std.specs.Prelude.{List}
+use Rattle.std.specs.Prelude.{List, [], ◌∷◌}
 use Rattle.ev_value.specs.Item.{bind, one}
 use Rattle.ev_value.specs.declared.item.Item.{Item}
 use Rattle.ev_value.specs.declared.value.Val.{Val}
+use Rattle.ev_value.specs.declared.value.Val as val
 use Rattle.eql_sem.specs.declared.binding.Bound.{Bound}
 use Rattle.eql_sem.specs.declared.binding.Bound.TheVariants as bound
 use Rattle.eql_sem.specs.declared.form.Form as form
@@ -15,15 +16,26 @@ use Rattle.eql_sem.specs.declared.binding.Name.TheVariants as name
 use Rattle.core_ir.specs.declared.path.Root.{Root}
 use Rattle.core_ir.specs.Path.{root_path}
 
--- a value whose form is the value itself
+unfoldable mutual
+  -- the form of a value: of a tuple the forms of its components, of any other the value itself
+  pub form_of : Val → Form
+  form_of (val.Tuple' _ parts) = made.Tuple (forms_in parts)
+  form_of v = made.Value v
+
+  -- the forms of components
+  pub forms_in : {m : _} → val.Row_of-Val m → List Form
+  forms_in val.end_of-Val = []
+  forms_in (val.more_of-Val v rest) = form_of v ∷ forms_in rest
+
+-- a value with its own form
 abbrev pub bare : Val → Formed
-bare v = record { value = v; form = form.Value v }
+bare v = record { value = v; form = form_of v }
 
 -- items without their forms
 abbrev pub strip : List (Item Formed) → List (Item Val)
 strip xs = bind xs (λ x. one x.value)
 
--- items whose forms are their values
+-- items with their values' own forms
 abbrev pub dress : List (Item Val) → List (Item Formed)
 dress xs = bind xs (λ v. one (bare v))
 

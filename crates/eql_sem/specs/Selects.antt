@@ -38,17 +38,21 @@ plain_rows rows = bind rows (λ x. one x.value)
 abbrev pub cut_rows : List KeyOrder → Option ℕ → Option ℕ → List (Item (Keyed Row)) → List (Item Row)
 cut_rows orders o l rows = collect (λ xs. all_of (section o l (keyless (in_order orders xs)))) rows
 
--- what follows for an offset and a limit: their faults where there are some, else what f makes of both
-abbrev pub ranged : List (Item Val) → List (Item Val) → (Option ℕ → Option ℕ → List (Item Formed)) → List (Item Formed)
-ranged offset limit f = both (first_of offset) (first_of limit) (λ x y. both (limit_of x ∷ []) (limit_of y ∷ []) f)
+-- how many rows an offset or a limit asks for: the number that its first value is, or the faults that it tells
+abbrev pub counted : List (Item Val) → List (Item (Option ℕ))
+counted xs = bind (first_of xs) (λ x. limit_of x ∷ [])
 
--- what the first values of an offset and of a limit ask for
-abbrev pub range_of : Option Val → Option Val → List (Item Range)
-range_of x y = both (limit_of x ∷ []) (limit_of y ∷ []) (λ o l. one (record { offset = o; limit = l }))
+-- what follows for an offset and a limit: the faults of both where there are some, else what f makes of their numbers
+abbrev pub ranged : List (Item Val) → List (Item Val) → (Option ℕ → Option ℕ → List (Item Formed)) → List (Item Formed)
+ranged offset limit f = both (counted offset) (counted limit) f
+
+-- what the numbers of an offset and of a limit ask for
+abbrev pub range_of : Option ℕ → Option ℕ → List (Item Range)
+range_of o l = one (record { offset = o; limit = l })
 
 -- what the lists of an offset and of a limit ask for
 abbrev pub ranges : List (Item Val) → List (Item Val) → List (Item Range)
-ranges offset limit = both (first_of offset) (first_of limit) range_of
+ranges offset limit = both (counted offset) (counted limit) range_of
 
 -- The rows that a statement leaves, without an order, an offset and a limit, or with some of them, and what is made of
 -- each. In the second case the faults of offset and limit are the whole list; else the faults among rows and keys are;

@@ -1,7 +1,7 @@
 //! Lists of items.
-ghost use Rattle.std.specs.Prelude.{◌≡◌, ◌∷◌, ◌++◌, [], IfOk, OnOk, Bool, true, false};
+ghost use Rattle.std.specs.Prelude.{◌≡◌, ◌∷◌, ◌++◌, [], IfOk, OnOk, Bool, true, false, map};
 ghost use Rattle.ev_value.specs.Item.{all_of, only_faults, has_fault, faults, values};
-ghost use Rattle.eql_sem.specs.Forms.{strip as strip_items, dress as dress_items, bare as bare_item};
+ghost use Rattle.eql_sem.specs.Forms.{strip as strip_items, dress as dress_items, bare as bare_item, form_of as form_in};
 ghost use Rattle.eql_sem.specs.Items.{IsSettled};
 
 use crate::copies::Copies;
@@ -112,7 +112,7 @@ pub fn strip(alloc: Global, items: &[Item<Formed>]) -> Result<List<Item>, AllocE
     Ok(all)
 }
 
-/// Items whose forms are their values.
+/// Items with their values' own forms.
 pub fn dress(alloc: Global, items: &[Item]) -> Result<List<Item<Formed>>, AllocError>
     ensures { IfOk result (λ xs. xs ≡ dress_items items.now) }
 {
@@ -127,13 +127,42 @@ pub fn dress(alloc: Global, items: &[Item]) -> Result<List<Item<Formed>>, AllocE
     Ok(all)
 }
 
-/// A value whose form is the value itself.
+/// The form of a value: of a tuple the forms of its components, of any other the value itself.
+#[cycle(form)]
+#[tactic(auto, using(crate::proofs::ValueForms::form_of_each))]
+fn form_of(alloc: Global, value: &Val) -> Result<Form, AllocError>
+    ensures { IfOk result (λ f. f ≡ form_in value.now) }
+{
+    match value {
+        Val::Tuple(parts) => Ok(Form::Tuple(forms_of_parts(alloc, parts.as_slice())?)),
+        Val::Int(_) => Ok(Form::Value(value.copied(alloc)?)),
+        Val::Str(_) => Ok(Form::Value(value.copied(alloc)?)),
+        Val::Bool(_) => Ok(Form::Value(value.copied(alloc)?)),
+        Val::Id(_) => Ok(Form::Value(value.copied(alloc)?)),
+        Val::Obj(_) => Ok(Form::Value(value.copied(alloc)?)),
+        Val::Array(_) => Ok(Form::Value(value.copied(alloc)?)),
+    }
+}
+
+// The forms of a tuple's components.
+#[cycle(form)]
+fn forms_of_parts(alloc: Global, parts: &[Val]) -> Result<List<Form>, AllocError>
+    ensures { IfOk result (λ fs. fs ≡ map form_in parts.now) }
+{
+    let mut all = List::new(alloc);
+    for part in parts {
+        all.push(form_of(alloc, part)?)?;
+    }
+    Ok(all)
+}
+
+/// A value with its own form.
 pub fn bare(alloc: Global, value: &Val) -> Result<Formed, AllocError>
     ensures { IfOk result (λ x. x ≡ bare_item value.now) }
 {
     Ok(Formed {
         value: value.copied(alloc)?,
-        form: Form::Value(value.copied(alloc)?),
+        form: form_of(alloc, value)?,
     })
 }
 

@@ -3,7 +3,7 @@ ghost use Rattle.std.specs.Prelude.{◌≡◌, ◌++◌, IfOk, OnOk, map};
 ghost use Rattle.ev_value.specs.Item.{bind};
 ghost use Rattle.eql_sem.specs.Meaning.{order_of as order_by};
 ghost use Rattle.eql_sem.specs.Parts.{is_cut_select};
-ghost use Rattle.eql_sem.specs.Selects.{first_of as first_in, keyed_rows as keyed, plain_rows as rows_alone, cut_rows as rows_cut, range_of, ranges as ranges_of};
+ghost use Rattle.eql_sem.specs.Selects.{first_of as first_in, keyed_rows as keyed, plain_rows as rows_alone, cut_rows as rows_cut, counted as counted_in, range_of, ranges as ranges_of};
 
 use crate::binding::{Bound, copied_bounds};
 use crate::copies::Copies;
@@ -190,49 +190,44 @@ pub fn is_cut(select: &Select) -> bool
     !(select.keys.is_empty() && select.offset.is_none() && select.limit.is_none())
 }
 
-// The numbers that the first values of an offset and of a limit are, or the faults that they make.
-fn range_items(
-    alloc: Global,
-    offset: &Option<Val>,
-    limit: &Option<Val>,
-) -> Result<List<Item<Range>>, AllocError>
-    ensures { IfOk result (λ xs. xs ≡ range_of offset.now limit.now) }
+// How many rows an offset or a limit asks for, or the faults that it tells.
+fn counted(alloc: Global, items: &[Item]) -> Result<List<Item<Option<u64>>>, AllocError>
+    ensures { IfOk result (λ xs. xs ≡ counted_in items.now) }
 {
-    let offset = limit_of(offset.copied_in(alloc)?);
-    let limit = limit_of(limit.copied_in(alloc)?);
-    match (offset, limit) {
-        (Item::Value(offset), Item::Value(limit)) => {
-            one(alloc, Item::Value(Range { offset, limit }))
-        }
-        (Item::Value(_), Item::Fault(fault)) => one(alloc, Item::Fault(fault)),
-        (Item::Fault(fault), Item::Value(_)) => one(alloc, Item::Fault(fault)),
-        (Item::Fault(first), Item::Fault(second)) => {
-            let mut all = one(alloc, Item::Fault(first))?;
-            all.push(Item::Fault(second))?;
-            Ok(all)
-        }
+    let firsts = first_of(alloc, items)?;
+    let mut all = List::new(alloc);
+    for item in firsts.as_slice() {
+        let count = match item {
+            Item::Value(value) => limit_of(value.copied_in(alloc)?),
+            Item::Fault(fault) => Item::Fault(*fault),
+        };
+        all.push(count)?;
     }
+    Ok(all)
 }
 
-// Appends what an offset's value comes to with each value of the limit.
+// Appends the range of an offset with each limit.
 fn add_ranges(
-    alloc: Global,
-    offset: &Option<Val>,
-    limits: &[Item<Option<Val>>],
+    offset: Option<u64>,
+    limits: &[Item<Option<u64>>],
     all: &mut List<Item<Range>>,
 ) -> Result<(), AllocError>
-    ensures { OnOk result (all.new ≡ all.old ++ bind limits.now (range_of offset.now)) }
+    ensures { OnOk result (all.new ≡ all.old ++ bind limits.now (range_of offset)) }
 {
     for item in limits {
-        match item {
-            Item::Value(limit) => all.append(range_items(alloc, offset, limit)?)?,
-            Item::Fault(fault) => all.push(Item::Fault(*fault))?,
-        }
+        let range = match item {
+            Item::Value(limit) => Item::Value(Range {
+                offset,
+                limit: *limit,
+            }),
+            Item::Fault(fault) => Item::Fault(*fault),
+        };
+        all.push(range)?;
     }
     Ok(())
 }
 
-/// What the lists of an offset and of a limit ask for: one range, or faults.
+/// What the lists of an offset and of a limit ask for: one range, or the faults of both.
 pub fn ranges(
     alloc: Global,
     offset: &[Item],
@@ -240,14 +235,14 @@ pub fn ranges(
 ) -> Result<List<Item<Range>>, AllocError>
     ensures { IfOk result (λ xs. xs ≡ ranges_of offset.now limit.now) }
 {
-    let offsets = first_of(alloc, offset)?;
+    let offsets = counted(alloc, offset)?;
     let offsets = offsets.as_slice();
-    let limits = first_of(alloc, limit)?;
+    let limits = counted(alloc, limit)?;
     let limits = limits.as_slice();
     let mut all = List::new(alloc);
     for item in offsets {
         match item {
-            Item::Value(offset) => add_ranges(alloc, offset, limits, &mut all)?,
+            Item::Value(offset) => add_ranges(*offset, limits, &mut all)?,
             Item::Fault(fault) => all.push(Item::Fault(*fault))?,
         }
     }
