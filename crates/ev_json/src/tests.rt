@@ -22,6 +22,9 @@ fn writes_each_kind_of_value(rt: HostRuntime) -> Result<(), Fail> {
     parts.push(Val::Int(1))?;
     parts.push(Val::Tuple(List::new(alloc)))?;
     parts.push(Val::Bool(false))?;
+    let mut elements = List::new(alloc);
+    elements.push(Val::Int(2))?;
+    elements.push(Val::Int(-1))?;
     let table = [
         (Nested::Null, "null"),
         (
@@ -42,6 +45,8 @@ fn writes_each_kind_of_value(rt: HostRuntime) -> Result<(), Fail> {
             "{\"id\":\"00000000-0000-4000-8000-0000000000ab\"}",
         ),
         (Nested::Scalar(Val::Tuple(parts)), "[1,[],false]"),
+        (Nested::Scalar(Val::Array(elements)), "[2,-1]"),
+        (Nested::Scalar(Val::Array(List::new(alloc))), "[]"),
         (Nested::Array(List::new(alloc)), "[]"),
     ];
     for (form, due) in &table {

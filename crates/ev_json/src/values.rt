@@ -46,7 +46,7 @@ fn put(
     Ok(())
 }
 
-/// A plain value; a tuple is an array of its components.
+/// A plain value; a tuple is an array of its components, and an array one of its elements.
 #[cycle(value)]
 fn value_of(alloc: Global, value: &Val) -> Result<Value, AllocError>
     ensures { IfOk result (λ v. IsPrinted v (value_text value.now)) }
@@ -58,6 +58,7 @@ fn value_of(alloc: Global, value: &Val) -> Result<Value, AllocError>
         Val::Id(id) => id_value(alloc, *id),
         Val::Obj(id) => object_value(alloc, *id),
         Val::Tuple(parts) => Ok(Value::Array(values_of(alloc, parts.as_slice())?)),
+        Val::Array(elements) => Ok(Value::Array(values_of(alloc, elements.as_slice())?)),
     }
 }
 

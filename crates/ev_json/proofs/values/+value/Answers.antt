@@ -2,7 +2,7 @@ use Rattle.std.proofs.Common.{◌≡◌, ◌+◌, map, take, to_z, of_z, rules, 
 use Rattle.std.specs.Int.{w64}
 use Rattle.std.specs.Fmt.{signed_decimal}
 use Rattle.ev_value.specs.JsonText.{value_text, json_string, json_array}
-use Rattle.ev_value.proofs.JsonTexts.{int_text, str_text, bool_text, uuid_text, obj_text, tuple_text}
+use Rattle.ev_value.proofs.JsonTexts.{int_text, str_text, bool_text, uuid_text, obj_text, tuple_text, elements_text}
 use Rattle.ev_json.specs.Printed.{IsPrinted, ArePrinted}
 use Rattle.ev_json.proofs.Printing.{printed_number, printed_bool, printed_array, printed_more, if_printed}
 use Rattle.ev_json.proofs.values.+value.Goals as goal
@@ -26,6 +26,9 @@ value_of-returns-in-Obj t c = if_printed c.object_value.result _ _ (ap value_tex
 
 pub value_of-returns-in_ok-values_of-in-Tuple : goal.value_of-returns-in_ok-values_of-in-Tuple
 value_of-returns-in_ok-values_of-in-Tuple t c = subst (IsPrinted _) (sym (ap value_text c.in-Tuple.is ∙ tuple_text _ ∙ ap (λ vs. json_array (map value_text vs)) (sym c.as_slice.ensures))) (printed_array c.in_ok-values_of-in-Tuple.field-0 _ c.in_ok-values_of-in-Tuple.ensures)
+
+pub value_of-returns-in_ok-values_of-in-Array : goal.value_of-returns-in_ok-values_of-in-Array
+value_of-returns-in_ok-values_of-in-Array t c = subst (IsPrinted _) (sym (ap value_text c.in-Array.is ∙ elements_text _ ∙ ap (λ vs. json_array (map value_text vs)) (sym c.as_slice-in-Array.ensures))) (printed_array c.in_ok-values_of-in-Array.field-0 _ c.in_ok-values_of-in-Array.ensures)
 
 pub values_of-loop-part-preserved : goal.values_of-loop-part-preserved
 values_of-loop-part-preserved t c =
