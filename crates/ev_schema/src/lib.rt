@@ -11,6 +11,7 @@ mod pointer;
 mod policy;
 mod rules;
 mod schema;
+mod steps;
 mod types;
 
 pub use laws::{computed_is_bounded, made_is_numbered};
