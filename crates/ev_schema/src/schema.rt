@@ -79,7 +79,7 @@ fn target_of(body: &Body) -> Option<TypeId>
 {
     match body {
         Body::Stored(Ty::Object(ty)) => Some(*ty),
-        Body::Stored(Ty::Scalar(_) | Ty::Tuple(_)) | Body::Computed => None,
+        Body::Stored(Ty::Scalar(_) | Ty::Tuple(_) | Ty::Array(_)) | Body::Computed => None,
     }
 }
 
