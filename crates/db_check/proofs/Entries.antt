@@ -37,9 +37,11 @@ one_stored : (p : PtrId) (info : PtrInfo) (u : Ty) (es : List Element) → OneAt
 one_stored p info (ty.Scalar t) [] = tt
 one_stored p info (ty.Object t) [] = tt
 one_stored p info (ty.Tuple' n ts) [] = tt
+one_stored p info (ty.Array t) [] = tt
 one_stored p info (ty.Scalar t) (e ∷ more) = refl
 one_stored p info (ty.Object t) (e ∷ more) = refl
 one_stored p info (ty.Tuple' n ts) (e ∷ more) = tt
+one_stored p info (ty.Array t) (e ∷ more) = tt
 
 one_of : (p : PtrId) (info : PtrInfo) (b : Body) (es : List Element) → OneAtMost (OfPointer p) (entry_of p info b es)
 one_of p info (body.Stored t) es = one_stored p info t es

@@ -35,9 +35,11 @@ module _ (p : PtrId) where
     stored_other info (ty.Scalar t) [] = tt
     stored_other info (ty.Object t) [] = tt
     stored_other info (ty.Tuple' n ts) [] = tt
+    stored_other info (ty.Array t) [] = tt
     stored_other info (ty.Scalar t) (e ∷ more) = (other, tt)
     stored_other info (ty.Object t) (e ∷ more) = (other, tt)
     stored_other info (ty.Tuple' n ts) (e ∷ more) = tt
+    stored_other info (ty.Array t) (e ∷ more) = tt
 
     body_other : (info : PtrInfo) (b : Body) (es : List Element) → Each Other (entry_of q info b es)
     body_other info (body.Stored t) es = stored_other info t es

@@ -89,6 +89,7 @@ module _ (s : Schema) (well : IsWellFormedSchema s) (heads : List Head) (os : Li
         let both = neither_of (option_map alone (form_flaw (is_many info.card) d)) (link_flaw s.types heads info u (elements d)) h in
         (link_fits u (elements d) st both.1, none_mapped alone (form_flaw (is_many info.card) d) both.0, (link_passes s.types heads info u (elements d) both.1).1)
     stored_fits (ty.Tuple' n ts) d k st h = absurd (cc)
+    stored_fits (ty.Array u) d k st h = absurd (cc)
 
     known_fits : (u : Ty) (d : Option Draft) → stored_type info.body ≡ Some u → pointer_flaw s.types heads info info.body d ≡ None → StoredFits u d
     known_fits u d st h =

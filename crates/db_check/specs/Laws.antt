@@ -39,6 +39,7 @@ abbrev pub is_storable : Ty → Bool
 is_storable (ty.Scalar t) = true
 is_storable (ty.Object t) = true
 is_storable (ty.Tuple' n ts) = false
+is_storable (ty.Array t) = false
 
 -- What a store asks of its schema.
 pub record IsWellFormedSchema (s : Schema) : Type 0 where

@@ -26,7 +26,7 @@ use Rattle.db_store.specs.declared.object.Object.{Object}
 use Rattle.db_store.specs.declared.object.PtrValue.{PtrValue}
 use Rattle.db_store.specs.declared.object.PtrValue.TheVariants as value
 use Rattle.db_store.specs.declared.object.Target.{Target}
-use Rattle.db_store.specs.Limits.{has_type, same, meets}
+use Rattle.db_store.specs.Limits.{has_type, is_array_of, same, meets}
 use Rattle.db_store.specs.Objects.{find, led_to, items_at}
 
 -- P of each element
@@ -72,6 +72,7 @@ module _ (s : Schema) where
   -- What is stored of a pointer is of its type, and each value meets each of the pointer's constraints.
   abbrev pub FitsValue : List Object → PtrInfo → Ty → PtrValue → Type 0
   FitsValue os info (ty.Scalar t) (value.Vals vs) = Each (λ v. (has_type t v ≡ true) × Each (λ l. meets l v ≡ true) info.limits) vs
+  FitsValue os info (ty.Array t) (value.Vals vs) = Each (λ v. (is_array_of t v ≡ true) × Each (λ l. meets l v ≡ true) info.limits) vs
   FitsValue os info (ty.Object t) (value.Links ts) = Ascend (λ a b. nat_lt a.id b.id) ts × Each (FitsTarget os info t) ts
   FitsValue os info _ _ = ⊥
 

@@ -63,7 +63,9 @@ pub fn object_of<'a>(objects: &'a [Object], value: &Val) -> Option<&'a Object>
 {
     match value {
         Val::Obj(id) => find(objects, *id),
-        Val::Int(_) | Val::Str(_) | Val::Bool(_) | Val::Id(_) | Val::Tuple(_) => None,
+        Val::Int(_) | Val::Str(_) | Val::Bool(_) | Val::Id(_) => None,
+        Val::Tuple(_) => None,
+        Val::Array(_) => None,
     }
 }
 

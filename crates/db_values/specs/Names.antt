@@ -15,6 +15,7 @@ use Rattle.db_store.specs.Fits.{text_before, name_of}
 use Rattle.db_draft.specs.First.{or_else}
 use Rattle.db_draft.specs.Members.{member}
 use Rattle.db_draft.specs.declared.draft.Draft.{Draft}
+use Rattle.db_draft.specs.declared.draft.Element.{Element}
 use Rattle.db_draft.specs.declared.draft.Member.{Member}
 use Rattle.db_draft.specs.declared.refusal.Rule.TheVariants as rule
 use Rattle.db_ids.specs.declared.heads.Head.{Head}
@@ -57,6 +58,11 @@ least_unknown s t found (m ∷ more) = least_unknown s t (if is_unknown_key s t 
 abbrev pub scalar_flaw : PtrInfo → ScalarTy → Option Draft → Option Flaw
 scalar_flaw info t d = or_else (option_map alone (form_flaw (is_many info.card) d)) (option_map alone (property_flaw info t (elements d)))
 
+-- X7 fails where anything stands for a pointer of an array type: no document writes an array of scalars as a value yet
+abbrev pub array_flaw : List Element → Option Flaw
+array_flaw [] = None
+array_flaw (e ∷ more) = Some (alone rule.X7)
+
 module _ (types : List TypeInfo) (heads : List Head) where
   abbrev pub target_flaw : PtrInfo → TypeId → Option Draft → Option Flaw
   target_flaw info t d = or_else (option_map alone (form_flaw (is_many info.card) d)) (link_flaw types heads info t (elements d))
@@ -65,6 +71,7 @@ module _ (types : List TypeInfo) (heads : List Head) where
   stored_flaw info (ty.Scalar t) d = scalar_flaw info t d
   stored_flaw info (ty.Object t) d = target_flaw info t d
   stored_flaw info (ty.Tuple' n ts) d = None
+  stored_flaw info (ty.Array t) d = array_flaw (elements d)
 
   -- what fails at a pointer, for which this stands
   abbrev pub pointer_flaw : PtrInfo → Body → Option Draft → Option Flaw

@@ -2,14 +2,14 @@
 ghost use Rattle.std.specs.Prelude.{◌≡◌, ◌<◌, ◌^◌, length, slice_get, IfOk, Some, None};
 ghost use Rattle.std.specs.Option.{option_copied};
 ghost use Rattle.db_store.specs.Fits.{text_before, name_of};
-ghost use Rattle.db_values.specs.Names.{is_stored as is_stored_body, is_unknown_key as is_unknown_key_in, lesser as lesser_of, least_unknown as least_unknown_in, scalar_flaw as scalar_flaw_of, target_flaw as target_flaw_of, pointer_flaw as pointer_flaw_of, flaw_if_known, first_flawed as first_flawed_of, sooner as sooner_of, object_flaw as object_flaw_of};
+ghost use Rattle.db_values.specs.Names.{is_stored as is_stored_body, is_unknown_key as is_unknown_key_in, lesser as lesser_of, least_unknown as least_unknown_in, scalar_flaw as scalar_flaw_of, array_flaw as array_flaw_of, target_flaw as target_flaw_of, pointer_flaw as pointer_flaw_of, flaw_if_known, first_flawed as first_flawed_of, sooner as sooner_of, object_flaw as object_flaw_of};
 
 use crate::elements::{elements, form_flaw, is_many};
 use crate::flaw::{Flaw, Flawed};
 use crate::links::{alone, link_flaw};
 use crate::properties::property_flaw;
 use core_ir::{PtrId, Ty, TypeId};
-use db_draft::{Draft, Member, Rule, member};
+use db_draft::{Draft, Element, Member, Rule, member};
 use db_ids::Heads;
 use ev_schema::{Body, PtrInfo, Schema};
 use ev_value::{ScalarTy, Text};
@@ -104,6 +104,16 @@ fn target_flaw(
     link_flaw(alloc, schema, heads, info, ty, elements(draft))
 }
 
+/// What fails where this stands for a pointer of an array type.
+fn array_flaw(elements: &[Element]) -> Option<Flaw>
+    ensures { result ≡ array_flaw_of elements.now }
+{
+    match elements {
+        [] => None,
+        [_, ..] => Some(alone(Rule::X7)),
+    }
+}
+
 /// What fails at a pointer, for which this stands.
 fn pointer_flaw(
     alloc: Global,
@@ -118,6 +128,7 @@ fn pointer_flaw(
         Body::Stored(Ty::Scalar(ty)) => scalar_flaw(alloc, info, *ty, draft),
         Body::Stored(Ty::Object(ty)) => target_flaw(alloc, schema, heads, info, *ty, draft),
         Body::Stored(Ty::Tuple(_)) => Ok(None),
+        Body::Stored(Ty::Array(_)) => Ok(array_flaw(elements(draft))),
         Body::Computed => Ok(None),
     }
 }

@@ -127,6 +127,7 @@ fn add_stored(
             entries.push(Entry { pointer, value })
         }
         Ty::Tuple(_) => Ok(()),
+        Ty::Array(_) => Ok(()),
     }
 }
 

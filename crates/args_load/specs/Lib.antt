@@ -1,4 +1,0 @@
-pub mod Sections
-pub mod Values
-pub mod Load
-pub mod Views
