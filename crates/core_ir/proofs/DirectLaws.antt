@@ -1,5 +1,5 @@
 -- The direct occurrences of each form, as the code makes the form.
-use Rattle.std.proofs.Common.{◌≡◌, ℕ, Bool, true, false, List, [], ◌∷◌, ◌++◌, refl, append_assoc, append-nil}
+use Rattle.std.proofs.Common.{◌≡◌, ℕ, Bool, true, false, List, [], ◌∷◌, ◌++◌, Option, refl, append_assoc, append-nil}
 use Rattle.std.specs.List.{flat_map}
 use Rattle.ev_value.specs.declared.operator.Op.{Op}
 use Rattle.ev_value.specs.declared.value.Val.{Val}
@@ -7,6 +7,7 @@ use Rattle.ev_value.specs.declared.value.ScalarTy.{ScalarTy}
 use Rattle.ev_list.specs.declared.param.Param.{Param}
 use Rattle.core_ir.specs.Occurrences.{direct, direct_of}
 use Rattle.core_ir.specs.declared.tree.Occurrence.{Occurrence}
+use Rattle.core_ir.specs.declared.tree.Misfit.{Misfit}
 use Rattle.core_ir.specs.declared.tree.Scope.{Scope}
 use Rattle.core_ir.specs.declared.tree.SetFunction.{SetFunction}
 use Rattle.core_ir.specs.declared.tree.Alias.{Alias}
@@ -16,6 +17,7 @@ use Rattle.core_ir.specs.declared.tree.Select.{Select}
 use Rattle.core_ir.specs.declared.tree.Expr.{Expr}
 use Rattle.core_ir.specs.declared.tree.Expr.TheVariants as form
 use Rattle.core_ir.specs.declared.tree.Expr.TheBlock as block
+use Rattle.core_ir.specs.declared.ty.Ty.{Ty}
 use denote.Hole.Carrier as carrier
 
 single : (x : Expr) (o : Bool) → direct_of (block.hidden-the_row-Expr-0 x) o ≡ direct x o
@@ -91,9 +93,9 @@ pub direct_if : (n : ℕ) (c : Conditional) (o : Bool) → direct (form.If n c) 
 unfolding direct
 direct_if n c o = single c.condition o
 
-pub direct_shaped : (n : ℕ) (x : Expr) (k : ℕ) (es : List Element) (o : Bool) → direct (form.Shaped n x k es) o ≡ direct x o
+pub direct_shaped : (n : ℕ) (x : Expr) (t : Option Ty) (k : ℕ) (es : List Element) (o : Bool) → direct (form.Shaped n x t k es) o ≡ direct x o
 unfolding direct
-direct_shaped n x k es o = single x o
+direct_shaped n x t k es o = single x o
 
 pub direct_select : (n : ℕ) (xs : List Alias) (s : Select) (o : Bool) → direct (form.Select n xs s) o ≡ []
 unfolding direct
@@ -103,4 +105,24 @@ pub direct_for : (n : ℕ) (xs : List Alias) (k : ℕ) (s t : Scope) (o : Bool) 
 unfolding direct
 direct_for n xs k s t o = refl
 
-pub ruleset direct_forms = (append_assoc, append-nil, direct_literal, direct_param, direct_global, direct_path, direct_on_base, direct_operation, direct_plus, direct_cast, direct_tuple, direct_optional_equal, direct_in_set, direct_of_set, direct_union, direct_set, direct_coalesce, direct_if, direct_shaped, direct_select, direct_for)
+pub direct_array : (n : ℕ) (t : Option ScalarTy) (xs : List Expr) (o : Bool) → direct (form.Array n t xs) o ≡ flat_map (λ x. direct x o) xs
+unfolding direct
+direct_array n t xs o = row xs o
+
+pub direct_array_cast : (n : ℕ) (t : ScalarTy) (x : Expr) (o : Bool) → direct (form.ArrayCast n t x) o ≡ direct x o
+unfolding direct
+direct_array_cast n t x o = single x o
+
+pub direct_unpack : (n : ℕ) (x : Expr) (o : Bool) → direct (form.Unpack n x) o ≡ direct x o
+unfolding direct
+direct_unpack n x o = single x o
+
+pub direct_empty_set : (n : ℕ) (t : Ty) (o : Bool) → direct (form.EmptySet n t) o ≡ []
+unfolding direct
+direct_empty_set n t o = refl
+
+pub direct_unfit : (n : ℕ) (m : Misfit) (k : ℕ) (xs : List Expr) (o : Bool) → direct (form.Unfit n m k xs) o ≡ flat_map (λ x. direct x o) xs
+unfolding direct
+direct_unfit n m k xs o = row xs o
+
+pub ruleset direct_forms = (append_assoc, append-nil, direct_literal, direct_param, direct_global, direct_path, direct_on_base, direct_operation, direct_plus, direct_cast, direct_tuple, direct_optional_equal, direct_in_set, direct_of_set, direct_union, direct_set, direct_coalesce, direct_if, direct_shaped, direct_select, direct_for, direct_array, direct_array_cast, direct_unpack, direct_empty_set, direct_unfit)

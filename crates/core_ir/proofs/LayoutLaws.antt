@@ -9,6 +9,7 @@ use Rattle.core_ir.specs.LayoutParts.{field_of, layouts_of}
 use Rattle.core_ir.specs.declared.layout.Layout.TheVariants as layout
 use Rattle.core_ir.specs.declared.path.TypeId.{TypeId}
 use Rattle.core_ir.specs.declared.tree.Occurrence.{Occurrence}
+use Rattle.core_ir.specs.declared.tree.Misfit.{Misfit}
 use Rattle.core_ir.specs.declared.tree.Scope.{Scope}
 use Rattle.core_ir.specs.declared.tree.SetFunction.{SetFunction}
 use Rattle.core_ir.specs.declared.tree.Alias.{Alias}
@@ -41,7 +42,11 @@ pub plain_tuple : (ts : List Ty) → plain (ty.Tuple ts) ≡ layout.Tuple (map p
 unfolding plain
 plain_tuple ts = ap layout.Tuple (plain_row ts)
 
-pub ruleset plain_forms = (plain_scalar, plain_object, plain_tuple)
+pub plain_array : (s : ScalarTy) → plain (ty.Array s) ≡ layout.Scalar
+unfolding plain
+plain_array s = refl
+
+pub ruleset plain_forms = (plain_scalar, plain_object, plain_tuple, plain_array)
 
 field_row : (es : List Element) → fields (block.hidden-the_row-Element-3 es) ≡ map field_of es
 unfolding layout_by carrier.hidden block.hidden-the_row-Element-3
@@ -55,9 +60,9 @@ row (x ∷ xs) [] = refl
 row (x ∷ xs) (t ∷ ts) = λ i. layout_by x (Some t) ∷ row xs ts i
 
 module _ (m : ℕ) where
-  pub layout_shaped : (x : Expr) (k : ℕ) (es : List Element) (t : Option Ty) → layout_by (form.Shaped m x k es) t ≡ layout.Shape (map field_of es)
+  pub layout_shaped : (x : Expr) (y : Option Ty) (k : ℕ) (es : List Element) (t : Option Ty) → layout_by (form.Shaped m x y k es) t ≡ layout.Shape (map field_of es)
   unfolding layout_by
-  layout_shaped x k es t = ap layout.Shape (field_row es)
+  layout_shaped x y k es t = ap layout.Shape (field_row es)
 
   pub layout_tuple : (xs : List Expr) (ts : List Ty) → layout_by (form.Tuple m xs) (Some (ty.Tuple ts)) ≡ layout.Tuple (layouts_of xs ts)
   unfolding layout_by
@@ -71,6 +76,10 @@ module _ (m : ℕ) where
   unfolding layout_by
   layout_tuple_object xs n = refl
 
+  pub layout_tuple_array : (xs : List Expr) (s : ScalarTy) → layout_by (form.Tuple m xs) (Some (ty.Array s)) ≡ plain (ty.Array s)
+  unfolding layout_by
+  layout_tuple_array xs s = refl
+
   pub layout_tuple_none : (xs : List Expr) → layout_by (form.Tuple m xs) None ≡ layout.Scalar
   unfolding layout_by
   layout_tuple_none xs = refl
@@ -79,15 +88,15 @@ module _ (m : ℕ) where
   unfolding layout_by carrier.hidden block.hidden-the_row-Expr-0
   layout_for xs k s b t = refl
 
-  layout_rolled : (xs : List Alias) (x : Expr) (k : ℕ) (f : Option Scope) (ks : List Key) (o l : Option Scope) (t : Option Ty)
-      → layout_by (form.Select m xs (roll-Select (record { subject = x; number = k; filter = f; keys = ks; offset = o; limit = l }))) t ≡ layout_by x t
+  layout_rolled : (xs : List Alias) (x : Expr) (y : Option Ty) (k : ℕ) (f : Option Scope) (ks : List Key) (o l : Option Scope) (t : Option Ty)
+      → layout_by (form.Select m xs (roll-Select (record { subject = x; ty = y; number = k; filter = f; keys = ks; offset = o; limit = l }))) t ≡ layout_by x t
   unfolding layout_by roll-Select carrier.roll carrier.hidden block.hidden-the_row-Expr-0
-  layout_rolled xs x k f ks o l t = refl
+  layout_rolled xs x y k f ks o l t = refl
 
   pub layout_select : (xs : List Alias) (s : Select) (t : Option Ty) → layout_by (form.Select m xs s) t ≡ layout_by (out-Select s).subject t
   layout_select xs s t =
       let r = out-Select s in
-      ap (λ s. layout_by (form.Select m xs s) t) (sym (roll-out-Select s)) ∙ layout_rolled xs r.subject r.number r.filter r.keys r.offset r.limit t
+      ap (λ s. layout_by (form.Select m xs s) t) (sym (roll-out-Select s)) ∙ layout_rolled xs r.subject r.ty r.number r.filter r.keys r.offset r.limit t
 
   pub layout_literal : (v : Val) (t : Option Ty) → layout_by (form.Literal m v) t ≡ plain_slot t
   unfolding layout_by
@@ -149,4 +158,24 @@ module _ (m : ℕ) where
   unfolding layout_by
   layout_if c t = refl
 
-pub ruleset layout_forms = (layout_shaped, layout_tuple, layout_tuple_scalar, layout_tuple_object, layout_tuple_none, layout_for, layout_select, layout_literal, layout_param, layout_global, layout_path, layout_on_base, layout_operation, layout_plus, layout_cast, layout_optional_equal, layout_in_set, layout_of_set, layout_union, layout_set, layout_coalesce, layout_if)
+  pub layout_array : (s : Option ScalarTy) (xs : List Expr) (t : Option Ty) → layout_by (form.Array m s xs) t ≡ plain_slot t
+  unfolding layout_by
+  layout_array s xs t = refl
+
+  pub layout_array_cast : (s : ScalarTy) (x : Expr) (t : Option Ty) → layout_by (form.ArrayCast m s x) t ≡ plain_slot t
+  unfolding layout_by
+  layout_array_cast s x t = refl
+
+  pub layout_unpack : (x : Expr) (t : Option Ty) → layout_by (form.Unpack m x) t ≡ plain_slot t
+  unfolding layout_by
+  layout_unpack x t = refl
+
+  pub layout_empty_set : (y : Ty) (t : Option Ty) → layout_by (form.EmptySet m y) t ≡ plain_slot t
+  unfolding layout_by
+  layout_empty_set y t = refl
+
+  pub layout_unfit : (f : Misfit) (k : ℕ) (xs : List Expr) (t : Option Ty) → layout_by (form.Unfit m f k xs) t ≡ plain_slot t
+  unfolding layout_by
+  layout_unfit f k xs t = refl
+
+pub ruleset layout_forms = (layout_shaped, layout_tuple, layout_tuple_scalar, layout_tuple_object, layout_tuple_array, layout_tuple_none, layout_for, layout_select, layout_literal, layout_param, layout_global, layout_path, layout_on_base, layout_operation, layout_plus, layout_cast, layout_optional_equal, layout_in_set, layout_of_set, layout_union, layout_set, layout_coalesce, layout_if, layout_array, layout_array_cast, layout_unpack, layout_empty_set, layout_unfit)

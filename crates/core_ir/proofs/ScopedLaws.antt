@@ -8,6 +8,7 @@ use Rattle.ev_list.specs.declared.order.Absent.{Absent}
 use Rattle.core_ir.specs.ScopedPaths.{scopes_in, scopes_in_all, scopes_among, scopes_in_elements, scopes_in_aliases, scopes_in_clause, scopes_in_keys, scopes_in_key, paths_in, paths_in_all, paths_in_scope, paths_among, paths_in_elements, paths_in_aliases, paths_in_clause, paths_in_keys, paths_in_key}
 use Rattle.core_ir.specs.ScopedParts.{total, in_turn, paths_of, scopes_of_scope, paths_of_scope, scopes_of_alias, paths_of_alias, scopes_of_element, paths_of_element, paths_of_key, scopes_of_clause, paths_of_clause, scopes_of_choice, paths_by_order, paths_of_choice, scopes_of_rows, paths_of_rows, scopes_of_loop, paths_of_loop}
 use Rattle.core_ir.specs.declared.tree.Occurrence.{Occurrence}
+use Rattle.core_ir.specs.declared.tree.Misfit.{Misfit}
 use Rattle.core_ir.specs.declared.tree.Scope.{Scope}
 use Rattle.core_ir.specs.declared.tree.SetFunction.{SetFunction}
 use Rattle.core_ir.specs.declared.tree.Alias.{Alias}
@@ -22,6 +23,7 @@ use Rattle.core_ir.specs.declared.tree.Expr.{Expr}
 use Rattle.core_ir.specs.declared.tree.Expr as e
 use Rattle.core_ir.specs.declared.tree.Expr.TheVariants as form
 use Rattle.core_ir.specs.declared.tree.Expr.TheBlock as block
+use Rattle.core_ir.specs.declared.ty.Ty.{Ty}
 use denote.Hole.Carrier as carrier
 
 -- how many scopes there are
@@ -133,25 +135,45 @@ module _ (m : ℕ) where
   unfolding scopes_in
   scopes_if c = λ i. one c.condition i + suc (one c.value.body i) + suc (one c.other.body i)
 
-  pub scopes_shaped : (x : Expr) (k : ℕ) (es : List Element) → scopes_in (form.Shaped m x k es) ≡ scopes_in x + total scopes_of_element es
+  pub scopes_shaped : (x : Expr) (t : Option Ty) (k : ℕ) (es : List Element) → scopes_in (form.Shaped m x t k es) ≡ scopes_in x + total scopes_of_element es
   unfolding scopes_in
-  scopes_shaped x k es = λ i. one x i + elements es i
+  scopes_shaped x t k es = λ i. one x i + elements es i
+
+  pub scopes_array : (t : Option ScalarTy) (xs : List Expr) → scopes_in (form.Array m t xs) ≡ total scopes_in xs
+  unfolding scopes_in
+  scopes_array t xs = row xs
+
+  pub scopes_array_cast : (t : ScalarTy) (x : Expr) → scopes_in (form.ArrayCast m t x) ≡ scopes_in x
+  unfolding scopes_in
+  scopes_array_cast t x = one x
+
+  pub scopes_unpack : (x : Expr) → scopes_in (form.Unpack m x) ≡ scopes_in x
+  unfolding scopes_in
+  scopes_unpack x = one x
+
+  pub scopes_empty_set : (t : Ty) → scopes_in (form.EmptySet m t) ≡ 0
+  unfolding scopes_in
+  scopes_empty_set t = refl
+
+  pub scopes_unfit : (f : Misfit) (k : ℕ) (xs : List Expr) → scopes_in (form.Unfit m f k xs) ≡ total scopes_in xs
+  unfolding scopes_in
+  scopes_unfit f k xs = row xs
 
   pub scopes_for : (xs : List Alias) (k : ℕ) (s t : Scope) → scopes_in (form.For m xs k s t) ≡ scopes_of_loop s t + total scopes_of_alias xs
   unfolding scopes_in
   scopes_for xs k s t = λ i. suc (suc (one s.body i) + suc (one t.body i)) + aliases xs i
 
-  scopes_rolled : (xs : List Alias) (x : Expr) (k : ℕ) (f : Option Scope) (ks : List Key) (o l : Option Scope)
-      → scopes_in (form.Select m xs (roll-Select (record { subject = x; number = k; filter = f; keys = ks; offset = o; limit = l })))
+  scopes_rolled : (xs : List Alias) (x : Expr) (y : Option Ty) (k : ℕ) (f : Option Scope) (ks : List Key) (o l : Option Scope)
+      → scopes_in (form.Select m xs (roll-Select (record { subject = x; ty = y; number = k; filter = f; keys = ks; offset = o; limit = l })))
       ≡ suc (scopes_in x + scopes_of_clause f + total scopes_in_key ks) + total scopes_of_alias xs + scopes_of_clause o + scopes_of_clause l
   unfolding scopes_in roll-Select carrier.roll carrier.hidden
-  scopes_rolled xs x k f ks o l = λ i. suc (one x i + clause f i + keys ks i) + aliases xs i + clause o i + clause l i
+  scopes_rolled xs x y k f ks o l = λ i. suc (one x i + clause f i + keys ks i) + aliases xs i + clause o i + clause l i
 
   pub scopes_select : (xs : List Alias) (s : Select)
       → scopes_in (form.Select m xs s) ≡ scopes_of_rows s + total scopes_of_alias xs + scopes_of_clause (out-Select s).offset + scopes_of_clause (out-Select s).limit
   scopes_select xs s =
       let r = out-Select s in
-      ap (λ s. scopes_in (form.Select m xs s)) (sym (roll-out-Select s)) ∙ scopes_rolled xs r.subject r.number r.filter r.keys r.offset r.limit
+      ap (λ s. scopes_in (form.Select m xs s)) (sym (roll-out-Select s)) ∙ scopes_rolled xs r.subject r.ty r.number r.filter r.keys r.offset r.limit
 
 -- the occurrences
 
@@ -264,7 +286,7 @@ module _ (around : List ℕ) where
     paths_coalesce x s = λ i. alone x n true i ++ scope s.body (n + one x i) i
 
     choice : (d : Order) (c : Expr) (s t : Scope) (f g h : _)
-        → paths_in (e.If' m d f (block.hidden-the_row-Expr-0 c) s.start g (block.hidden-the_row-Expr-0 s.body) t.start h (block.hidden-the_row-Expr-0 t.body)) n around o
+        → paths_in (e.If' m d f (block.hidden-the_row-Expr-0 c) s.start s.ty g (block.hidden-the_row-Expr-0 s.body) t.start t.ty h (block.hidden-the_row-Expr-0 t.body)) n around o
         ≡ paths_by_order d around o c s t n
     unfolding paths_in
     choice order.ValueFirst c s t f g h =
@@ -275,10 +297,30 @@ module _ (around : List ℕ) where
     pub paths_if : (c : Conditional) → paths_in (form.If m c) n around o ≡ paths_of_choice around o c n
     paths_if c = choice c.order c.condition c.value c.other _ _ _
 
-    pub paths_shaped : (x : Expr) (k : ℕ) (es : List Element)
-        → paths_in (form.Shaped m x k es) n around o ≡ paths_in x n around o ++ in_turn scopes_of_element (paths_of_element around) es (n + scopes_in x)
+    pub paths_shaped : (x : Expr) (t : Option Ty) (k : ℕ) (es : List Element)
+        → paths_in (form.Shaped m x t k es) n around o ≡ paths_in x n around o ++ in_turn scopes_of_element (paths_of_element around) es (n + scopes_in x)
     unfolding paths_in
-    paths_shaped x k es = λ i. alone x n o i ++ paths_elements es (n + one x i) i
+    paths_shaped x t k es = λ i. alone x n o i ++ paths_elements es (n + one x i) i
+
+    pub paths_array : (t : Option ScalarTy) (xs : List Expr) → paths_in (form.Array m t xs) n around o ≡ in_turn scopes_in (paths_of around o) xs n
+    unfolding paths_in
+    paths_array t xs = paths_row xs n o
+
+    pub paths_array_cast : (t : ScalarTy) (x : Expr) → paths_in (form.ArrayCast m t x) n around o ≡ paths_in x n around o
+    unfolding paths_in
+    paths_array_cast t x = alone x n o
+
+    pub paths_unpack : (x : Expr) → paths_in (form.Unpack m x) n around o ≡ paths_in x n around o
+    unfolding paths_in
+    paths_unpack x = alone x n o
+
+    pub paths_empty_set : (t : Ty) → paths_in (form.EmptySet m t) n around o ≡ []
+    unfolding paths_in
+    paths_empty_set t = refl
+
+    pub paths_unfit : (f : Misfit) (k : ℕ) (xs : List Expr) → paths_in (form.Unfit m f k xs) n around o ≡ in_turn scopes_in (paths_of around o) xs n
+    unfolding paths_in
+    paths_unfit f k xs = paths_row xs n o
 
 pub paths_for : (around : List ℕ) (m n : ℕ) (o : Bool) (xs : List Alias) (k : ℕ) (s t : Scope)
     → paths_in (form.For m xs k s t) n around o ≡ in_turn scopes_of_alias (paths_of_alias around) xs (n + scopes_of_loop s t) ++ paths_of_loop around s t n
@@ -288,8 +330,8 @@ paths_for around m n o xs k s t =
     ++ scope (around ++ n ∷ []) s.body (suc n) i ++ scope (around ++ n ∷ []) t.body (suc n + suc (one s.body i)) i)
     ∙ append_assoc (in_turn scopes_of_alias (paths_of_alias around) xs (n + scopes_of_loop s t)) (paths_of_scope (around ++ n ∷ []) s (suc n)) (paths_of_scope (around ++ n ∷ []) t (suc n + scopes_of_scope s))
 
-paths_rolled : (around : List ℕ) (m n : ℕ) (p : Bool) (xs : List Alias) (x : Expr) (k : ℕ) (f : Option Scope) (ks : List Key) (o l : Option Scope)
-    → paths_in (form.Select m xs (roll-Select (record { subject = x; number = k; filter = f; keys = ks; offset = o; limit = l }))) n around p
+paths_rolled : (around : List ℕ) (m n : ℕ) (p : Bool) (xs : List Alias) (x : Expr) (y : Option Ty) (k : ℕ) (f : Option Scope) (ks : List Key) (o l : Option Scope)
+    → paths_in (form.Select m xs (roll-Select (record { subject = x; ty = y; number = k; filter = f; keys = ks; offset = o; limit = l }))) n around p
     ≡ (let inner = around ++ n ∷ [] in
     let behind = n + suc (scopes_in x + scopes_of_clause f + total scopes_in_key ks) in
     in_turn scopes_of_alias (paths_of_alias around) xs behind
@@ -298,7 +340,7 @@ paths_rolled : (around : List ℕ) (m n : ℕ) (p : Bool) (xs : List Alias) (x :
     ++ paths_of_clause around o (behind + total scopes_of_alias xs)
     ++ paths_of_clause around l (behind + total scopes_of_alias xs + scopes_of_clause o))
 unfolding paths_in roll-Select carrier.roll carrier.hidden
-paths_rolled around m n p xs x k f ks o l =
+paths_rolled around m n p xs x y k f ks o l =
     λ i. paths_aliases around xs (n + suc (one x i + clause f i + keys ks i)) i
     ++ (alone (around ++ n ∷ []) x (suc n) false i ++ paths_clause (around ++ n ∷ []) f (suc n + one x i) i
     ++ paths_keys (around ++ n ∷ []) ks (suc n + one x i + clause f i) i)
@@ -312,6 +354,6 @@ pub paths_select : (around : List ℕ) (m n : ℕ) (o : Bool) (xs : List Alias) 
     ++ paths_of_clause around (out-Select s).limit (n + scopes_of_rows s + total scopes_of_alias xs + scopes_of_clause (out-Select s).offset)
 paths_select around m n o xs s =
     let r = out-Select s in
-    ap (λ s. paths_in (form.Select m xs s) n around o) (sym (roll-out-Select s)) ∙ paths_rolled around m n o xs r.subject r.number r.filter r.keys r.offset r.limit
+    ap (λ s. paths_in (form.Select m xs s) n around o) (sym (roll-out-Select s)) ∙ paths_rolled around m n o xs r.subject r.ty r.number r.filter r.keys r.offset r.limit
 
-pub ruleset scoped_forms = (append_assoc, append-nil, scopes_literal, scopes_param, scopes_global, scopes_path, scopes_on_base, scopes_operation, scopes_plus, scopes_cast, scopes_tuple, scopes_optional_equal, scopes_in_set, scopes_of_set, scopes_union, scopes_set, scopes_coalesce, scopes_if, scopes_shaped, scopes_for, scopes_select, scopes_ascending, scopes_descending, paths_literal, paths_param, paths_global, paths_path, paths_on_base, paths_operation, paths_plus, paths_cast, paths_tuple, paths_optional_equal, paths_in_set, paths_of_set, paths_union, paths_set, paths_coalesce, paths_if, paths_shaped, paths_for, paths_select, paths_ascending, paths_descending)
+pub ruleset scoped_forms = (append_assoc, append-nil, scopes_literal, scopes_param, scopes_global, scopes_path, scopes_on_base, scopes_operation, scopes_plus, scopes_cast, scopes_tuple, scopes_optional_equal, scopes_in_set, scopes_of_set, scopes_union, scopes_set, scopes_coalesce, scopes_if, scopes_shaped, scopes_for, scopes_select, scopes_array, scopes_array_cast, scopes_unpack, scopes_empty_set, scopes_unfit, scopes_ascending, scopes_descending, paths_literal, paths_param, paths_global, paths_path, paths_on_base, paths_operation, paths_plus, paths_cast, paths_tuple, paths_optional_equal, paths_in_set, paths_of_set, paths_union, paths_set, paths_coalesce, paths_if, paths_shaped, paths_for, paths_select, paths_array, paths_array_cast, paths_unpack, paths_empty_set, paths_unfit, paths_ascending, paths_descending)

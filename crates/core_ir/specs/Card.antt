@@ -1,5 +1,5 @@
 -- Cardinalities: the least and the most number of items.
-use Rattle.std.specs.Prelude.{◌≡◌, ℕ, zero, suc, ◌+◌, ◌*◌, ◌≤◌, min, max, Option, Some, None}
+use Rattle.std.specs.Prelude.{◌≡◌, ℕ, zero, suc, ◌+◌, ◌*◌, ◌≤◌, min, max, Bool, true, false, not, Option, Some, None}
 use Rattle.core_ir.specs.declared.card.Card.{Card}
 use Rattle.core_ir.specs.declared.card.Card.TheVariants as card
 
@@ -22,6 +22,26 @@ most card.Many = None
 abbrev pub AtMost : Option ℕ → ℕ → Type 0
 AtMost (Some m) n = n ≤ m
 AtMost None n = Unit {0}
+
+-- whether more than one item is allowed
+abbrev pub is_many : Card → Bool
+is_many card.Empty = false
+is_many card.AtMostOne = false
+is_many card.One = false
+is_many card.AtLeastOne = true
+is_many card.Many = true
+
+-- whether at most one item is allowed
+abbrev pub is_single : Card → Bool
+is_single c = not (is_many c)
+
+-- whether there is always an item
+abbrev pub is_required : Card → Bool
+is_required card.Empty = false
+is_required card.AtMostOne = false
+is_required card.One = true
+is_required card.AtLeastOne = true
+is_required card.Many = false
 
 -- a number of items lies within a cardinality
 abbrev pub Within : Card → ℕ → Type 0

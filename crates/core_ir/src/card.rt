@@ -1,6 +1,6 @@
 //! Cardinalities: how many items an expression may have.
 ghost use Rattle.std.specs.Prelude.{◌≡◌, ◌↔◌, IsTrue};
-ghost use Rattle.core_ir.specs.Card.{Within, CardsBound, CardsKeep, times as times_of, plus as plus_of, either as either_of, or_one as or_one_of};
+ghost use Rattle.core_ir.specs.Card.{Within, CardsBound, CardsKeep, times as times_of, plus as plus_of, either as either_of, or_one as or_one_of, is_many as is_many_by, is_single as is_single_by, is_required as is_required_by};
 
 /// The least and the most number of items, as the EdgeDB documentation's page on cardinality names them.
 #[derive(Clone, Copy, Debug, PartialEq, Eq)]
@@ -60,6 +60,27 @@ impl Card {
             Card::Empty | Card::AtMostOne | Card::One => Card::One,
             Card::AtLeastOne | Card::Many => Card::AtLeastOne,
         }
+    }
+
+    /// Whether it allows more than one item.
+    pub fn is_many(self) -> bool
+        ensures { result ≡ is_many_by self }
+    {
+        matches!(self, Card::AtLeastOne | Card::Many)
+    }
+
+    /// Whether it allows at most one item.
+    pub fn is_single(self) -> bool
+        ensures { result ≡ is_single_by self }
+    {
+        !self.is_many()
+    }
+
+    /// Whether there is always an item.
+    pub fn is_required(self) -> bool
+        ensures { result ≡ is_required_by self }
+    {
+        matches!(self, Card::One | Card::AtLeastOne)
     }
 
     /// Whether it allows this number of items.

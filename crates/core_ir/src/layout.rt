@@ -12,7 +12,7 @@ use crate::ty::Ty;
 use ev_value::{List, Text};
 use std::alloc::{AllocError, Global};
 
-/// How the items of a result are laid out as JSON.
+/// How the items of a result are laid out as JSON. An array of scalars is one value and counts as a scalar.
 #[derive(Drop)]
 #[cycle(layout)]
 pub enum Layout {
@@ -43,6 +43,7 @@ fn plain(alloc: Global, ty: &Ty) -> Result<Layout, AllocError>
         Ty::Scalar(_) => Ok(Layout::Scalar),
         Ty::Object(_) => Ok(Layout::Object),
         Ty::Tuple(parts) => Ok(Layout::Tuple(plain_all(alloc, parts.as_slice())?)),
+        Ty::Array(_) => Ok(Layout::Scalar),
     }
 }
 
@@ -69,7 +70,10 @@ fn plain_slot(alloc: Global, ty: Option<&Ty>) -> Result<Layout, AllocError>
 fn is_multi(card: Option<Card>) -> bool
     ensures { result ≡ is_multi_by card }
 {
-    !matches!(card, Some(Card::Empty | Card::AtMostOne | Card::One))
+    match card {
+        Some(card) => card.is_many(),
+        None => true,
+    }
 }
 
 #[cycle(layout_of)]
@@ -78,13 +82,16 @@ fn layout_by(alloc: Global, expr: &Expr, ty: Option<&Ty>) -> Result<Layout, Allo
     ensures { IfOk result (λ l. l ≡ layout_of_expr expr.now (option_copied ty.entry)) }
 {
     match expr {
-        Expr::Shaped(_, _, _, elements) => Ok(Layout::Shape(fields(alloc, elements.as_slice())?)),
+        Expr::Shaped(_, _, _, _, elements) => Ok(Layout::Shape(fields(
+            alloc,
+            elements.as_slice(),
+        )?)),
         Expr::Tuple(_, parts) => match ty {
             Some(Ty::Tuple(types)) => {
                 let layouts = layouts(alloc, parts.as_slice(), types.as_slice())?;
                 Ok(Layout::Tuple(layouts))
             }
-            Some(Ty::Scalar(_) | Ty::Object(_)) | None => plain_slot(alloc, ty),
+            Some(Ty::Scalar(_) | Ty::Object(_) | Ty::Array(_)) | None => plain_slot(alloc, ty),
         },
         Expr::Select(_, _, select) => layout_by(alloc, select.subject.get(), ty),
         Expr::For(_, _, _, _, body) => layout_by(alloc, body.body.get(), ty),
@@ -103,6 +110,11 @@ fn layout_by(alloc: Global, expr: &Expr, ty: Option<&Ty>) -> Result<Layout, Allo
         | Expr::Set(..)
         | Expr::Coalesce(..)
         | Expr::If(..) => plain_slot(alloc, ty),
+        Expr::Array(..)
+        | Expr::ArrayCast(..)
+        | Expr::Unpack(..)
+        | Expr::EmptySet(..)
+        | Expr::Unfit(..) => plain_slot(alloc, ty),
     }
 }
 

@@ -1,4 +1,9 @@
 //! The tree of a query whose names are known, which every later phase shares.
+//! Takes such a tree, paths or cardinalities; gives the occurrences of paths, how an answer is laid out, and the bounds of
+//! what is made of lists.
+//! Contract: `occurrences`, `direct`, `all` and `layout_of` give exactly their definitions; paths are told apart exactly; the
+//! arithmetic of `Card` bounds what is made of lists within the bounds (`cards_bound`).
+//! Seen by the crates of schemas, objects and meaning, by `sql_encode` and by `edge_run`.
 #![tactic(auto)]
 
 mod card;
@@ -20,7 +25,7 @@ pub use path::{Path, PtrId, Root, Step, TypeId, alike, copied_steps, paths_are_e
 pub use phase::{Carded, Core, Guarded, Typed};
 pub use scoped_paths::{ScopedPath, occurrences};
 pub use tree::{
-    Alias, Conditional, Direct, Element, Expr, Key, Need, Occurrence, Order, Scope, Select,
+    Alias, Conditional, Direct, Element, Expr, Key, Misfit, Need, Occurrence, Order, Scope, Select,
     SetFunction, Width,
 };
 pub use ty::{Ty, copied_types};

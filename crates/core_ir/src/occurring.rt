@@ -39,13 +39,18 @@ fn collect_direct(
         Expr::Path(_, occurrence) | Expr::OnBase(_, _, occurrence) => {
             add_direct(alloc, occurrence, optional, out)
         }
-        Expr::Operation(_, _, operands) | Expr::Tuple(_, operands) => {
+        Expr::Operation(_, _, operands)
+        | Expr::Tuple(_, operands)
+        | Expr::Array(_, _, operands)
+        | Expr::Unfit(_, _, _, operands) => {
             collect_direct_of_all(alloc, operands.as_slice(), optional, out)
         }
         Expr::Plus(_, operand)
         | Expr::Cast(_, _, operand)
         | Expr::In(_, _, operand, _)
-        | Expr::Shaped(_, operand, _, _) => collect_direct(alloc, operand.get(), optional, out),
+        | Expr::Shaped(_, operand, _, _, _)
+        | Expr::ArrayCast(_, _, operand)
+        | Expr::Unpack(_, operand) => collect_direct(alloc, operand.get(), optional, out),
         Expr::OptionalEqual(_, _, left, right) => {
             collect_direct(alloc, left.get(), true, out)?;
             collect_direct(alloc, right.get(), true, out)
@@ -59,7 +64,8 @@ fn collect_direct(
         | Expr::Union(..)
         | Expr::Set(..)
         | Expr::Select(..)
-        | Expr::For(..) => Ok(()),
+        | Expr::For(..)
+        | Expr::EmptySet(..) => Ok(()),
     }
 }
 
@@ -101,16 +107,20 @@ fn collect(alloc: Global, expr: &Expr, out: &mut List<Occurrence>) -> Result<(),
     ensures { OnOk result (out.new ≡ out.old ++ all_in expr.now) }
 {
     match expr {
-        Expr::Literal(..) | Expr::Param(..) | Expr::Global(..) => Ok(()),
+        Expr::Literal(..) | Expr::Param(..) | Expr::Global(..) | Expr::EmptySet(..) => Ok(()),
         Expr::Path(_, occurrence) => add(alloc, occurrence, out),
         Expr::OnBase(_, base, occurrence) => {
             collect(alloc, base.body.get(), out)?;
             add(alloc, occurrence, out)
         }
-        Expr::Operation(_, _, operands) | Expr::Tuple(_, operands) => {
-            collect_from(alloc, operands.as_slice(), out)
-        }
-        Expr::Plus(_, operand) | Expr::Cast(_, _, operand) => collect(alloc, operand.get(), out),
+        Expr::Operation(_, _, operands)
+        | Expr::Tuple(_, operands)
+        | Expr::Array(_, _, operands)
+        | Expr::Unfit(_, _, _, operands) => { collect_from(alloc, operands.as_slice(), out) }
+        Expr::Plus(_, operand)
+        | Expr::Cast(_, _, operand)
+        | Expr::ArrayCast(_, _, operand)
+        | Expr::Unpack(_, operand) => collect(alloc, operand.get(), out),
         Expr::OptionalEqual(_, _, left, right) => {
             collect(alloc, left.get(), out)?;
             collect(alloc, right.get(), out)
@@ -126,7 +136,7 @@ fn collect(alloc: Global, expr: &Expr, out: &mut List<Occurrence>) -> Result<(),
         }
         Expr::Set(_, elements) => collect_from_scopes(alloc, elements.as_slice(), out),
         Expr::If(_, choice) => collect_from_choice(alloc, choice, out),
-        Expr::Shaped(_, subject, _, elements) => {
+        Expr::Shaped(_, subject, _, _, elements) => {
             collect(alloc, subject.get(), out)?;
             collect_from_elements(alloc, elements.as_slice(), out)
         }

@@ -68,18 +68,22 @@ fn locate(
     ensures found { OnOk result (out.new ≡ out.old ++ paths_in expr.now next.old around.now optional) }
 {
     match expr {
-        Expr::Literal(..) | Expr::Param(..) | Expr::Global(..) => Ok(()),
+        Expr::Literal(..) | Expr::Param(..) | Expr::Global(..) | Expr::EmptySet(..) => Ok(()),
         Expr::Path(_, occurrence) => add(alloc, &occurrence.path, around, optional, out),
         Expr::OnBase(_, base, occurrence) => {
             locate_scope(alloc, base, around, next, out)?;
             add(alloc, &occurrence.path, around, optional, out)
         }
-        Expr::Operation(_, _, operands) | Expr::Tuple(_, operands) => {
+        Expr::Operation(_, _, operands)
+        | Expr::Tuple(_, operands)
+        | Expr::Array(_, _, operands)
+        | Expr::Unfit(_, _, _, operands) => {
             locate_all(alloc, operands.as_slice(), optional, around, next, out)
         }
-        Expr::Plus(_, operand) | Expr::Cast(_, _, operand) => {
-            locate(alloc, operand.get(), optional, around, next, out)
-        }
+        Expr::Plus(_, operand)
+        | Expr::Cast(_, _, operand)
+        | Expr::ArrayCast(_, _, operand)
+        | Expr::Unpack(_, operand) => { locate(alloc, operand.get(), optional, around, next, out) }
         Expr::OptionalEqual(_, _, left, right) => {
             locate(alloc, left.get(), true, around, next, out)?;
             locate(alloc, right.get(), true, around, next, out)
@@ -99,7 +103,7 @@ fn locate(
         }
         Expr::Set(_, elements) => locate_scopes(alloc, elements.as_slice(), around, next, out),
         Expr::If(_, choice) => locate_choice(alloc, choice, optional, around, next, out),
-        Expr::Shaped(_, subject, _, elements) => {
+        Expr::Shaped(_, subject, _, _, elements) => {
             locate(alloc, subject.get(), optional, around, next, out)?;
             locate_elements(alloc, elements.as_slice(), around, next, out)
         }

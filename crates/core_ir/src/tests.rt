@@ -69,6 +69,7 @@ fn path_at(alloc: Global, start: u32, property: u32) -> Result<Expr, AllocError>
 fn scope(alloc: Global, body: Expr) -> Result<Scope, AllocError> {
     Ok(Scope {
         start: 0,
+        ty: None,
         body: Boxed::new(alloc, body)?,
     })
 }
@@ -93,6 +94,7 @@ fn age_or_length(alloc: Global) -> Result<Expr, AllocError> {
 fn rows(alloc: Global, subject: Expr) -> Result<Select, AllocError> {
     Ok(Select {
         subject: Boxed::new(alloc, subject)?,
+        ty: None,
         number: 1,
         filter: None,
         keys: List::new(alloc),
@@ -165,7 +167,7 @@ fn elements(alloc: Global) -> Result<List<Element>, AllocError> {
 // `select User {name, words}`, where a user may have many words
 fn shaped(alloc: Global) -> Result<Carded, AllocError> {
     let subject = first(alloc)?;
-    let core = query(alloc, Expr::Shaped(7, subject, 2, elements(alloc)?))?;
+    let core = query(alloc, Expr::Shaped(7, subject, None, 2, elements(alloc)?))?;
     let ty = Ty::Object(TypeId(0));
     Ok(Carded {
         typed: Typed { core, ty },

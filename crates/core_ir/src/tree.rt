@@ -19,6 +19,8 @@ use std::alloc::{AllocError, Global};
 pub struct Scope {
     /// The first byte.
     pub start: u32,
+    /// The slot of the phase of types.
+    pub ty: Option<Ty>,
     pub body: Boxed<Expr>,
 }
 
@@ -82,12 +84,35 @@ pub enum Expr {
     /// `first ?? second`
     Coalesce(u32, Boxed<Expr>, Scope),
     If(u32, Conditional),
-    /// An expression with a shape, whose subject has this number.
-    Shaped(u32, Boxed<Expr>, u32, List<Element>),
+    /// An expression with a shape, the slot of the phase of types for it, and the number of the shape's subject.
+    Shaped(u32, Boxed<Expr>, Option<Ty>, u32, List<Element>),
     /// A `select` and the aliases before it.
     Select(u32, List<Alias>, Select),
     /// `for variable in iterator union body`, and the aliases before it.
     For(u32, List<Alias>, u32, Scope, Scope),
+    /// `[first, second, ..]`; with the type of its elements where they are written, as in `<array<str>>[]`.
+    Array(u32, Option<ScalarTy>, List<Expr>),
+    /// A cast to an array of a scalar type, which only types need: it changes no item.
+    ArrayCast(u32, ScalarTy, Boxed<Expr>),
+    /// `array_unpack`: the elements of each array in turn.
+    Unpack(u32, Boxed<Expr>),
+    /// `<T>{}`: no items of a type.
+    EmptySet(u32, Ty),
+    /// What types refuse once its parts have theirs: the rule that fails, and the byte where it does.
+    Unfit(u32, Misfit, u32, List<Expr>),
+}
+
+/// What no type can be given to, though all its names are known.
+#[derive(Clone, Copy, Debug, PartialEq, Eq)]
+pub enum Misfit {
+    /// A function of a whole set with no argument or several.
+    ArgumentCount,
+    /// A cast or a parameter of an object type.
+    ObjectCast,
+    /// `[is T]` with a scalar type.
+    ScalarNarrowing,
+    /// `.<l[is T]` with a scalar type.
+    ScalarBackLink,
 }
 
 /// A function whose argument is a whole set.
@@ -104,6 +129,8 @@ pub enum SetFunction {
     AssertSingle,
     AssertExists,
     AssertDistinct,
+    /// One array of all items.
+    ArrayAgg,
 }
 
 /// A choice between two branches.
@@ -138,6 +165,8 @@ pub struct Alias {
 #[cycle(core)]
 pub struct Select {
     pub subject: Boxed<Expr>,
+    /// The slot of the phase of types for the subject.
+    pub ty: Option<Ty>,
     /// The number of the subject's root.
     pub number: u32,
     pub filter: Option<Boxed<Scope>>,

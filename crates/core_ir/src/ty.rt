@@ -13,6 +13,8 @@ pub enum Ty {
     /// Objects of a type or of one that extends it.
     Object(TypeId),
     Tuple(List<Ty>),
+    /// Arrays of values of one scalar type.
+    Array(ScalarTy),
 }
 
 impl Ty {
@@ -25,6 +27,7 @@ impl Ty {
             Ty::Scalar(ty) => Ok(Ty::Scalar(*ty)),
             Ty::Object(ty) => Ok(Ty::Object(*ty)),
             Ty::Tuple(parts) => Ok(Ty::Tuple(copied_types(alloc, parts.as_slice())?)),
+            Ty::Array(ty) => Ok(Ty::Array(*ty)),
         }
     }
 }

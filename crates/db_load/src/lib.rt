@@ -1,4 +1,8 @@
-//! Loading data: a JSON text becomes a store.
+//! Loading data and arguments: a JSON text becomes a store, or the values of globals and parameters.
+//! Takes a schema and the bytes of a text; gives the store or the arguments, or the rule that is told first.
+//! Contract: `load` gives exactly the store that the text writes, or exactly the rule of X1 to X13 with its objects, and
+//! `load_args` likewise with A1 to A4, unless memory runs out; `loaded_objects_fit`: the objects fit the schema.
+//! Seen by `edge_run` and the trials.
 #![tactic(auto)]
 
 mod data;

@@ -1,4 +1,9 @@
 //! The top call: from the words of a command line to the bytes of the answer.
+//! Takes the words, a shelf of documents, two sinks and a gate; gives how the run ended, with the answer put to one sink or
+//! one line to the other.
+//! Contract: `run_words`: `headline` says what each end means, `exact` that each cause has its end unless memory or a document
+//! failed; `one_due`: for a task at most one thing is due; `accepted_objects_fit`: data that are accepted fit their schema.
+//! Seen by `edgeql_cli`.
 #![tactic(auto)]
 
 mod answers;

@@ -1,4 +1,7 @@
 //! The program `edgeql`: the words of its command line, the files that they name, standard output and standard error.
+//! Takes the words behind its name; gives an exit status, with the answer on standard output or one line on standard error.
+//! Contract: none of its own: it lends `run_words` of `edge_run` a `FileShelf`, two `StreamSink`s and the open gate.
+//! No crate stands on it.
 #![tactic(auto)]
 
 use edge_run::{Outcome, memory_line, run_words};

@@ -1,5 +1,8 @@
-//! The trees of what the grammar of queries reads, with their places and heights: one function for each form of its
-//! definitions of trees.
+//! The trees of what the grammar of queries reads, with their places and heights.
+//! Takes the parts that were read; gives the tree of their production, with its bytes and its height.
+//! Contract: one function for each definition of `specs/Trees` of `eql_grammar`, which gives exactly that, unless memory
+//! runs out.
+//! Seen by `eql_parse` and `sdl_parse`.
 #![tactic(auto)]
 
 mod brackets;

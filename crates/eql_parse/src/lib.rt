@@ -1,4 +1,8 @@
 //! The code that reads EdgeQL's queries and expressions from their tokens.
+//! Takes the tokens of a text; gives the query (`parse_query`) or the expression in front (`parse_expr`), or the refusal.
+//! Contract: both are exact: a tree comes exactly for tokens that spell it within the limits, and a refusal exactly with the
+//! first token that is dead or passes a limit, unless memory runs out; `one_tree`, `one_refusal`: there is at most one.
+//! Seen by `sdl_parse` (expressions inside schemas) and `edge_run`.
 #![tactic(auto)]
 
 mod atoms;

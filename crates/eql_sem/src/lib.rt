@@ -1,5 +1,9 @@
 //! What a query means: the list of its items over a world of objects, each with its nested form. Beside the definitions
 //! stand the plain functions over lists that a program of the meaning is made of.
+//! Takes lists of items, names with what they stand for, and the trait `World`; gives lists of items.
+//! Contract: each function gives exactly its definition; the meaning itself (`specs/Meaning`, `specs/Parts`) is a definition,
+//! which `eql_eval` computes.
+//! Seen by `eql_eval`, `eql_holds`, `eql_world` and `edge_run`.
 #![tactic(auto)]
 
 mod binding;

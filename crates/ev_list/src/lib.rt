@@ -1,5 +1,9 @@
 //! What EdgeQL's clauses and SQL share on lists: order by keys, offset and limit, first occurrences, assertions, and
 //! what is made of all elements.
+//! Takes lists of elements, of keys or of items; gives a list made of them, a number, a value, or the fault of an assertion.
+//! Contract: each call gives exactly its definition; the order is a stable permutation (`sort_is_stable`), and of equal
+//! elements the first is kept (`first_occurrences_are_kept`).
+//! Seen by `core_ir`, by the crates of schemas, objects and meaning, and by those of SQL.
 #![tactic(auto)]
 
 mod aggregate;

@@ -1,4 +1,8 @@
 //! What a schema says: its types, their pointers, its globals and the rules that cut what a caller sees.
+//! Takes the parts of a schema; gives a `Schema`, and answers about its types, pointers and rules.
+//! Contract: each call answers exactly by `specs/Types`, `specs/Pointers` and `specs/Policies`; the parts are as they were
+//! given.
+//! Seen by `schema_build`, by the crates of data and of worlds, by `eql_forms`, `sql_encode` and `edge_run`.
 #![tactic(auto)]
 
 mod pointer;

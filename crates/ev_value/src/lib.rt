@@ -1,4 +1,8 @@
-//! The values, items and nested forms of EdgeQL, and what operators give on them.
+//! The values, items and nested forms of EdgeQL, and what operators and casts give on them.
+//! Takes values and an operator, a cast or two values to compare; gives one value or one fault, or their order.
+//! Contract: `apply_op`, `cast` and `cmp_val` give exactly their definitions, for all operands; the order is total; a copy
+//! equals what it copies. Lists with faults (`bind`, `collect`, `StandsFor`) and the JSON text of a form are defined here.
+//! Seen by every crate but `exact` and `trial_exact`.
 #![tactic(auto)]
 
 mod args;

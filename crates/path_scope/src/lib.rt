@@ -1,4 +1,9 @@
 //! Scopes: which paths each part of a query binds for itself.
+//! Takes the occurrences of paths in a tree; gives the factored prefixes of a scope, or of all scopes of the tree.
+//! Contract: `factored_prefixes` and `scopes_of` give exactly their definitions; `factored_is_exact`: a path is among them
+//! exactly where it is the longest common prefix of a direct occurrence and an occurrence, and not bound around;
+//! `ScopeStack::find` gives the longest bound prefix of a path.
+//! Seen by `eql_sem`, `eql_eval` and `eql_holds`.
 #![tactic(auto)]
 
 mod factored;

@@ -1,4 +1,8 @@
 //! Builders of the trees that are read, one for each form, with its places and its height.
+//! Takes the parts that were read; gives the tree of their form, with the places of its parts and its height.
+//! Contract: one function for each definition of `specs/Trees` of `sql_grammar`, which gives exactly that, unless memory
+//! runs out.
+//! Seen by `sql_read`.
 #![tactic(auto)]
 
 mod cores;

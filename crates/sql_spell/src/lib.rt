@@ -1,5 +1,8 @@
-//! What is printed of a statement spells that statement: the tokens of the printer, form by form, are derived in the grammar.
-//! The definitions are in `specs/`, and the derivations in `proofs/`.
+//! What is printed of a statement spells that statement. It has no code that runs: the derivations are in `proofs/`.
+//! Takes the tokens that the printer gives; gives their derivation in the grammar.
+//! Contract: `printed_tokens_spell`: the tokens of a statement that has a form of the grammar spell it, within the limits;
+//! `well_formed_is_printable`: a well-formed statement has one, and its tokens can be written.
+//! Seen by `sql_parse`.
 #![tactic(auto)]
 
 mod laws;
