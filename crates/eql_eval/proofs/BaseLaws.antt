@@ -4,6 +4,8 @@ use Rattle.ev_value.specs.declared.operator.Op.{Op}
 use Rattle.ev_value.specs.declared.value.Val.{Val}
 use Rattle.ev_value.specs.declared.value.ScalarTy.{ScalarTy}
 use Rattle.ev_list.specs.declared.param.Param.{Param}
+use Rattle.core_ir.specs.declared.ty.Ty.{Ty}
+use Rattle.core_ir.specs.declared.tree.Misfit.{Misfit}
 use Rattle.core_ir.specs.declared.tree.Occurrence.{Occurrence}
 use Rattle.core_ir.specs.declared.tree.Scope.{Scope}
 use Rattle.core_ir.specs.declared.tree.SetFunction.{SetFunction}
@@ -44,8 +46,14 @@ base_coalesce n x s f k = same f x (form.Coalesce n x s) k (λ w. eq.bases_coale
 pub base_if : (n : ℕ) (c : Conditional) (f : Option Scope) (k : ℕ) → IsBase f c.condition k → IsBase f (form.If n c) k
 base_if n c f k = same f c.condition (form.If n c) k (λ w. eq.bases_if w n c)
 
-pub base_shaped : (n : ℕ) (x : Expr) (j : ℕ) (es : List Element) (f : Option Scope) (k : ℕ) → IsBase f x k → IsBase f (form.Shaped n x j es) k
-base_shaped n x j es f k = same f x (form.Shaped n x j es) k (λ w. eq.bases_shaped w n x j es)
+pub base_shaped : (n : ℕ) (x : Expr) (y : Option Ty) (j : ℕ) (es : List Element) (f : Option Scope) (k : ℕ) → IsBase f x k → IsBase f (form.Shaped n x y j es) k
+base_shaped n x y j es f k = same f x (form.Shaped n x y j es) k (λ w. eq.bases_shaped w n x y j es)
+
+pub base_array_cast : (n : ℕ) (t : ScalarTy) (x : Expr) (f : Option Scope) (k : ℕ) → IsBase f x k → IsBase f (form.ArrayCast n t x) k
+base_array_cast n t x f k = same f x (form.ArrayCast n t x) k (λ w. eq.bases_array_cast w n t x)
+
+pub base_unpack : (n : ℕ) (x : Expr) (f : Option Scope) (k : ℕ) → IsBase f x k → IsBase f (form.Unpack n x) k
+base_unpack n x f k = same f x (form.Unpack n x) k (λ w. eq.bases_unpack w n x)
 
 pub base_literal : (n : ℕ) (v : Val) (k : ℕ) → IsBase None (form.Literal n v) k
 base_literal n v k = none (form.Literal n v) k (λ w. eq.bases_literal w n v)
@@ -74,6 +82,9 @@ base_select n xs s k = none (form.Select n xs s) k (λ w. eq.bases_select w n xs
 pub base_for : (n : ℕ) (xs : List Alias) (j : ℕ) (s t : Scope) (k : ℕ) → IsBase None (form.For n xs j s t) k
 base_for n xs j s t k = none (form.For n xs j s t) k (λ w. eq.bases_for w n xs j s t)
 
+pub base_empty_set : (n : ℕ) (t : Ty) (k : ℕ) → IsBase None (form.EmptySet n t) k
+base_empty_set n t k = none (form.EmptySet n t) k (λ w. eq.bases_empty_set w n t)
+
 -- ---- an occurrence on a base
 
 by_number : (w : World) (s : Scope) (ns : List Name) (b : List Bound) (t : Bool)
@@ -91,6 +102,12 @@ base_operation n op xs f k h = λ w ns b. eq.base_operation w n op xs k ns b ∙
 
 pub base_tuple : (n : ℕ) (xs : List Expr) (f : Option Scope) (k : ℕ) → IsBaseAmong f xs k → IsBase f (form.Tuple n xs) k
 base_tuple n xs f k h = λ w ns b. eq.base_tuple w n xs k ns b ∙ h w ns b
+
+pub base_array : (n : ℕ) (t : Option ScalarTy) (xs : List Expr) (f : Option Scope) (k : ℕ) → IsBaseAmong f xs k → IsBase f (form.Array n t xs) k
+base_array n t xs f k h = λ w ns b. eq.base_array w n t xs k ns b ∙ h w ns b
+
+pub base_unfit : (n : ℕ) (m : Misfit) (j : ℕ) (xs : List Expr) (f : Option Scope) (k : ℕ) → IsBaseAmong f xs k → IsBase f (form.Unfit n m j xs) k
+base_unfit n m j xs f k h = λ w ns b. eq.base_unfit w n m j xs k ns b ∙ h w ns b
 
 pub base_left : (n : ℕ) (negated : Bool) (x y : Expr) (s : Scope) (k : ℕ) → IsBase (Some s) x k → IsBase (Some s) (form.OptionalEqual n negated x y) k
 base_left n negated x y s k h = λ w ns b. eq.base_optional_equal w n negated x y k ns b ∙ ap (λ o. or_else o (base_found (bases w y) k ns b)) (h w ns b)
@@ -113,7 +130,7 @@ left_here x xs all s k h found = λ w ns b. sym (h w ns b) ∙ ap (λ o. or_else
 pub left_none : (all : List Expr) (k : ℕ) → Left [] all k → IsBaseAmong None all k
 left_none all k h = λ w ns b. sym (h w ns b)
 
-pub ruleset base_forms = (base_plus, base_cast, base_in_set, base_coalesce, base_if, base_shaped, base_literal, base_param, base_global, base_path, base_of_set, base_union, base_set, base_select, base_for, base_here, base_operation, base_tuple, base_left, base_right)
+pub ruleset base_forms = (base_plus, base_cast, base_in_set, base_coalesce, base_if, base_shaped, base_literal, base_param, base_global, base_path, base_of_set, base_union, base_set, base_select, base_for, base_here, base_operation, base_tuple, base_array, base_array_cast, base_unpack, base_empty_set, base_unfit, base_left, base_right)
 
 -- ---- the list of a base
 

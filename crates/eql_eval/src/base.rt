@@ -31,12 +31,16 @@ pub(crate) fn find_base(expr: &Expr, number: u32) -> Option<&Scope>
         }
         Expr::Operation(_, _, operands) => find_base_among(operands.as_slice(), number),
         Expr::Tuple(_, parts) => find_base_among(parts.as_slice(), number),
+        Expr::Array(_, _, elements) => find_base_among(elements.as_slice(), number),
+        Expr::Unfit(_, _, _, parts) => find_base_among(parts.as_slice(), number),
         Expr::Plus(_, operand) => find_base(operand.get(), number),
         Expr::Cast(_, _, operand) => find_base(operand.get(), number),
         Expr::In(_, _, left, _) => find_base(left.get(), number),
         Expr::Coalesce(_, first, _) => find_base(first.get(), number),
         Expr::If(_, choice) => find_base(choice.condition.get(), number),
-        Expr::Shaped(_, subject, _, _) => find_base(subject.get(), number),
+        Expr::Shaped(_, subject, _, _, _) => find_base(subject.get(), number),
+        Expr::ArrayCast(_, _, operand) => find_base(operand.get(), number),
+        Expr::Unpack(_, operand) => find_base(operand.get(), number),
         Expr::OptionalEqual(_, _, left, right) => match find_base(left.get(), number) {
             Some(base) => Some(base),
             None => find_base(right.get(), number),
@@ -49,7 +53,8 @@ pub(crate) fn find_base(expr: &Expr, number: u32) -> Option<&Scope>
         | Expr::Union(..)
         | Expr::Set(..)
         | Expr::Select(..)
-        | Expr::For(..) => None,
+        | Expr::For(..)
+        | Expr::EmptySet(..) => None,
     }
 }
 

@@ -4,7 +4,7 @@ ghost use Rattle.ev_value.specs.Item.{one as one_of};
 ghost use Rattle.eql_sem.specs.Bindings.{pick as pick_in, given as given_in};
 ghost use Rattle.eql_sem.specs.Forms.{strip as strip_items, dress as dress_items, bare as bare_item};
 ghost use Rattle.eql_sem.specs.Meaning.{items};
-ghost use Rattle.eql_sem.specs.Operations.{optional, tupled as tuples_of, cast_to as cast_items, optional_equal as optionally_equal, operated as operated_by, in_set as is_in_set, of_set as set_function, coalesced as coalesced_lists, chosen as chosen_lists};
+ghost use Rattle.eql_sem.specs.Operations.{optional, tupled as tuples_of, cast_to as cast_items, optional_equal as optionally_equal, operated as operated_by, in_set as is_in_set, of_set as set_function, coalesced as coalesced_lists, chosen as chosen_lists, arrayed as arrays_of, unpacked as elements_in};
 ghost use Rattle.eql_sem.specs.Parts.{values_in, lists_of, scopes_values};
 ghost use Rattle.eql_eval.specs.Recursion.{Evaluates, task_items};
 ghost use Rattle.eql_sem.specs.declared.binding.Name.TheVariants as name;
@@ -13,8 +13,8 @@ use crate::evaluator::Evaluator;
 use crate::task::Task;
 use core_ir::{Conditional, Expr, Path, Scope, SetFunction};
 use eql_sem::{
-    Bound, Formed, Name, World, bare, cast_to, chosen, coalesced, dress, given, in_set, of_set,
-    one, operated, optional_equal, pick, tupled,
+    Bound, Formed, Name, World, arrayed, bare, cast_to, chosen, coalesced, dress, given, in_set,
+    of_set, one, operated, optional_equal, pick, tupled, unpacked,
 };
 use ev_value::{Item, List, Op, ScalarTy, Text, Val};
 use std::alloc::{AllocError, Global};
@@ -257,6 +257,34 @@ impl<
         tupled(self.alloc, parts.as_slice())
     }
 
+    fn array(
+        &self,
+        elements: &[Expr],
+        names: &[Name],
+        bounds: &[Bound],
+    ) -> Result<List<Item<Formed>>, AllocError>
+        requires { Evaluates W.means self.now.depth (F.pre self.now.inner) (F.post self.now.inner) }
+        ensures { IfOk result (λ xs. xs ≡ dress_items (arrays_of (map strip_items (lists_of (W.means self.now.world.now) elements.now names.now bounds.now)))) }
+    {
+        let elements = self.value_lists(elements, names, bounds)?;
+        let found = arrayed(self.alloc, elements.as_slice())?;
+        dress(self.alloc, found.as_slice())
+    }
+
+    fn unpacking(
+        &self,
+        operand: &Expr,
+        names: &[Name],
+        bounds: &[Bound],
+    ) -> Result<List<Item<Formed>>, AllocError>
+        requires { Evaluates W.means self.now.depth (F.pre self.now.inner) (F.post self.now.inner) }
+        ensures { IfOk result (λ xs. xs ≡ dress_items (elements_in (strip_items (items (W.means self.now.world.now) operand.now names.now bounds.now)))) }
+    {
+        let operand = self.values(operand, names, bounds)?;
+        let found = unpacked(self.alloc, operand.as_slice())?;
+        dress(self.alloc, found.as_slice())
+    }
+
     fn optional_equality(
         &self,
         negated: bool,
@@ -330,7 +358,7 @@ impl<
             Expr::Set(_, elements) => self.set(elements.as_slice(), names, bounds),
             Expr::Coalesce(_, first, second) => self.coalescing(first.get(), second, names, bounds),
             Expr::If(_, choice) => self.choice(choice, names, bounds),
-            Expr::Shaped(_, subject, _, _) => self.dressed(subject.get(), names, bounds),
+            Expr::Shaped(_, subject, _, _, _) => self.dressed(subject.get(), names, bounds),
             Expr::Select(_, aliases, select) => {
                 self.select_behind(aliases.as_slice(), select, names, bounds)
             }
@@ -342,6 +370,11 @@ impl<
                 names,
                 bounds,
             ),
+            Expr::Array(_, _, elements) => self.array(elements.as_slice(), names, bounds),
+            Expr::ArrayCast(_, _, operand) => self.dressed(operand.get(), names, bounds),
+            Expr::Unpack(_, operand) => self.unpacking(operand.get(), names, bounds),
+            Expr::EmptySet(_, _) => Ok(List::new(self.alloc)),
+            Expr::Unfit(_, _, _, _) => Ok(List::new(self.alloc)),
         }
     }
 

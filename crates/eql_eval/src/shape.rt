@@ -1,5 +1,6 @@
 //! Forms, finished once the rows that are left are known: shapes are made, those in components too.
 ghost use Rattle.std.specs.Prelude.{◌≡◌, ◌∷◌, ◌++◌, IfOk};
+ghost use Rattle.ev_value.specs.Item.{one as one_of};
 ghost use Rattle.eql_sem.specs.Forms.{tuple_forms, shape_forms, with_forms, name_of_root, subject_of as subject_in};
 ghost use Rattle.eql_sem.specs.Meaning.{finish, made};
 ghost use Rattle.eql_sem.specs.Operations.{gathered as gathered_of};
@@ -15,6 +16,13 @@ use eql_sem::{
 };
 use ev_value::{Item, List, Val};
 use std::alloc::{AllocError, Global};
+
+// The form that nothing is made of any more.
+fn as_it_is(alloc: Global, form: &Form) -> Result<List<Item<Form>>, AllocError>
+    ensures { IfOk result (λ xs. xs ≡ one_of form.now) }
+{
+    one(alloc, Item::Value(form.copied(alloc)?))
+}
 
 impl<
     W: World,
@@ -146,11 +154,9 @@ impl<
                 Form::Tuple(forms) => {
                     self.finished_tuple(parts.as_slice(), names, bounds, forms.as_slice())
                 }
-                Form::Value(_) | Form::Shape(_) => {
-                    one(self.alloc, Item::Value(form.copied(self.alloc)?))
-                }
+                Form::Value(_) | Form::Shape(_) => as_it_is(self.alloc, form),
             },
-            Expr::Shaped(_, _, number, elements) => {
+            Expr::Shaped(_, _, _, number, elements) => {
                 self.shaped(*number, elements.as_slice(), names, bounds, form)
             }
             Expr::Literal(..)
@@ -169,7 +175,12 @@ impl<
             | Expr::Coalesce(..)
             | Expr::If(..)
             | Expr::Select(..)
-            | Expr::For(..) => one(self.alloc, Item::Value(form.copied(self.alloc)?)),
+            | Expr::For(..) => as_it_is(self.alloc, form),
+            Expr::Array(..)
+            | Expr::ArrayCast(..)
+            | Expr::Unpack(..)
+            | Expr::EmptySet(..)
+            | Expr::Unfit(..) => as_it_is(self.alloc, form),
         }
     }
 

@@ -17,8 +17,7 @@ use Rattle.ast.specs.declared.statement.Query.{Query}
 use Rattle.ast.specs.declared.statement.Statement as s
 use Rattle.ast.specs.declared.statement.Statement.{Row_of-Alias, end_of-Alias, Row_of-Key, end_of-Key, None'}
 use Rattle.ast.specs.declared.statement.Alias.{Alias}
-use Rattle.core_ir.specs.declared.card.Card.{Card}
-use Rattle.core_ir.specs.declared.card.Card.TheVariants as card
+use Rattle.core_ir.specs.Card.{is_single}
 use Rattle.core_ir.specs.declared.path.PtrId.{PtrId}
 use Rattle.core_ir.specs.declared.path.Root.TheVariants as root
 use Rattle.core_ir.specs.declared.path.Step.TheVariants as step
@@ -52,7 +51,7 @@ braces _ _ = None
 
 -- a scope of a tree, if there is one
 abbrev pub scope_at : ℕ → Option Expr → Option Scope
-scope_at start tree = option_map (λ (x : Expr). record { start = start; body = x }) tree
+scope_at start tree = option_map (λ (x : Expr). record { start = start; ty = None; body = x }) tree
 
 -- an element in front of others, where each is built
 abbrev pub joined : Option Scope → Option (List Scope) → Option (List Scope)
@@ -86,16 +85,10 @@ abbrev pub type_from : ℕ → List TypeInfo → List ℕ → Option TypeId
 type_from k [] n = None
 type_from k (info ∷ more) n = if bytes_eq info.name n then Some (record { 0 = k }) else type_from (suc k) more n
 
--- whether values are stored, and are no objects
+-- whether values are stored, and are neither objects nor arrays
 abbrev pub is_property : Body → Bool
 is_property (body.Stored (ty.Scalar _)) = true
 is_property _ = false
-
--- whether there is at most one value
-abbrev pub is_single : Card → Bool
-is_single card.AtMostOne = true
-is_single card.One = true
-is_single _ = false
 
 -- whether a pointer is known, and is a stored property with at most one value
 abbrev pub is_stored_property : Option PtrInfo → Bool
@@ -104,17 +97,17 @@ is_stored_property (Some info) = is_property info.body && is_single info.card
 
 -- a pointer of a type, if it is a stored property with at most one value
 abbrev pub property_if : Schema → TypeId → Option PtrId → Option (TypeId × PtrId)
-property_if s t None = None
-property_if s t (Some p) = if is_stored_property (slice_get s.pointers p.0) then Some (t, p) else None
+property_if schema t None = None
+property_if schema t (Some p) = if is_stored_property (slice_get schema.pointers p.0) then Some (t, p) else None
 
 -- a type, if it is known, and its pointer with a name, if that is such a property
 abbrev pub property_of : Schema → Option TypeId → List ℕ → Option (TypeId × PtrId)
-property_of s None name = None
-property_of s (Some t) name = property_if s t (pointer_named s t name)
+property_of schema None name = None
+property_of schema (Some t) name = property_if schema t (pointer_named schema t name)
 
 -- a type and its stored property with at most one value, by their names
 abbrev pub stored_property : Schema → List ℕ → List ℕ → Option (TypeId × PtrId)
-stored_property s type name = property_of s (type_from 0 s.types type) name
+stored_property schema type name = property_of schema (type_from 0 schema.types type) name
 
 -- the path from the objects of a type to the values of a property
 abbrev pub path_to : ℕ → List ℕ → ℕ → Option (TypeId × PtrId) → Option Expr
@@ -124,22 +117,22 @@ path_to start type place (Some (t, p)) =
 
 -- a type's name that no module stands before, and a step behind it
 abbrev pub step_path : Schema → ℕ → Option Name → List ℕ → ℕ → Step → Option Expr
-step_path s start None type place (postfix.Dot name) = path_to start type place (stored_property s type name.text)
+step_path schema start None type place (postfix.Dot name) = path_to start type place (stored_property schema type name.text)
 step_path _ _ _ _ _ _ = None
 
 -- a step behind an expression, which is a name
 abbrev pub base_path : Schema → ℕ → e.Expr → Postfix → Option Expr
-base_path s start (e.Name _ type) p = step_path s start type.module type.name.text p.span.start p.step
+base_path schema start (e.Name _ type) p = step_path schema start type.module type.name.text p.span.start p.step
 base_path _ _ _ _ = None
 
 -- a step
 abbrev pub bare_path : Schema → e.Expr → Option Expr
-bare_path s (e.Postfix' at _ (more_of-Expr base end_of-Expr) p) = base_path s at.start base p
+bare_path schema (e.Postfix' at _ (more_of-Expr base end_of-Expr) p) = base_path schema at.start base p
 bare_path _ _ = None
 
 -- The path that an expression is: a type's name and a step to a stored property with at most one value, in parentheses or not.
 abbrev pub path : Schema → e.Expr → Option Expr
-path s x = bare_path s (bare x)
+path schema x = bare_path schema (bare x)
 
 -- the first tree, and the other one where there is none
 abbrev pub or_else : Option Expr → Option Expr → Option Expr
@@ -148,7 +141,7 @@ or_else None other = other
 
 -- the scope of a subject, from its first byte on
 abbrev pub subject : Schema → e.Expr → Option Scope
-subject s x = scope_at (span_of x).start (or_else (built x) (path s x))
+subject schema x = scope_at (span_of x).start (or_else (built x) (path schema x))
 
 -- no clause stands behind the subject
 abbrev pub HasNone : Clauses → Type 0
@@ -176,7 +169,7 @@ built_statement _ _ = None
 
 -- the tree of a query over a schema
 abbrev pub built_query : Schema → Query → Option Scope
-built_query s query = built_statement s query.statement
+built_query schema query = built_statement schema query.statement
 
 -- the code answers the tree, or that there is none, or that memory ran out
 abbrev pub IsBuilt : {A : Type 0} → Result A BuildError → Option A → Type 0

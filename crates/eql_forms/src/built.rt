@@ -68,7 +68,11 @@ fn scope(alloc: Global, start: u32, body: Expr) -> Result<Scope, AllocError>
     ensures { IfOk result (λ s. Some s ≡ spec.scope_at start (Some body)) }
 {
     let body = Boxed::new(alloc, body)?;
-    Ok(Scope { start, body })
+    Ok(Scope {
+        start,
+        ty: None,
+        body,
+    })
 }
 
 // The tree of an expression.

@@ -5,7 +5,7 @@ ghost use Rattle.eql_forms.specs.Built.{IsBuilt};
 
 use crate::built::BuildError;
 use ast::{Postfix, QualifiedName, Step};
-use core_ir::{Card, Expr, Occurrence, Path, PtrId, Root, Ty, TypeId};
+use core_ir::{Expr, Occurrence, Path, PtrId, Root, Ty, TypeId};
 use ev_schema::{Body, Schema, TypeInfo};
 use ev_value::{List, Text};
 use sqlite_items::at;
@@ -24,23 +24,13 @@ fn type_named(types: &[TypeInfo], name: &str) -> Option<TypeId>
     None
 }
 
-// Whether values are stored, and are no objects.
+// Whether values are stored, and are neither objects nor arrays.
 fn is_property(body: &Body) -> bool
     ensures { result ≡ spec.is_property body.now }
 {
     match body {
         Body::Stored(Ty::Scalar(_)) => true,
-        Body::Stored(Ty::Object(_) | Ty::Tuple(_)) | Body::Computed => false,
-    }
-}
-
-// Whether there is at most one value.
-fn is_single(card: Card) -> bool
-    ensures { result ≡ spec.is_single card }
-{
-    match card {
-        Card::AtMostOne | Card::One => true,
-        Card::Empty | Card::AtLeastOne | Card::Many => false,
+        Body::Stored(Ty::Object(_) | Ty::Tuple(_) | Ty::Array(_)) | Body::Computed => false,
     }
 }
 
@@ -49,7 +39,7 @@ fn is_stored_property(schema: &Schema, pointer: PtrId) -> bool
     ensures { result ≡ spec.is_stored_property (slice_get schema.now.pointers pointer.0) }
 {
     match at(schema.pointers.as_slice(), pointer.0 as usize) {
-        Some(info) => is_property(&info.body) && is_single(info.card),
+        Some(info) => is_property(&info.body) && info.card.is_single(),
         None => false,
     }
 }

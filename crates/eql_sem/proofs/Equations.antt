@@ -16,6 +16,8 @@ use Rattle.core_ir.specs.Occurrences.{all_of_key}
 use Rattle.core_ir.specs.Parts.{all_if_there}
 use Rattle.path_scope.specs.Factored.{factored}
 use Rattle.core_ir.proofs.AllLaws as occurring
+use Rattle.core_ir.specs.declared.ty.Ty.{Ty}
+use Rattle.core_ir.specs.declared.tree.Misfit.{Misfit}
 use Rattle.core_ir.specs.declared.tree.Occurrence.{Occurrence}
 use Rattle.core_ir.specs.declared.tree.Scope.{Scope}
 use Rattle.core_ir.specs.declared.tree.SetFunction.{SetFunction}
@@ -41,7 +43,7 @@ use Rattle.eql_sem.specs.declared.form.Formed.{Formed}
 use Rattle.eql_sem.specs.Bindings.{paths_of, pick, within, given}
 use Rattle.eql_sem.specs.Forms.{bare, strip, dress, subject_of}
 use Rattle.eql_sem.specs.Selects.{first_of, finished}
-use Rattle.eql_sem.specs.Operations.{is_empty, gathered, operated, cast_to, tupled, optional_equal, in_set, optional, of_set, coalesced, chosen}
+use Rattle.eql_sem.specs.Operations.{is_empty, gathered, operated, cast_to, tupled, optional_equal, in_set, optional, of_set, coalesced, chosen, arrayed, unpacked}
 use Rattle.eql_sem.specs.Scopes.{Gives, extensions}
 use Rattle.eql_sem.specs.World.{World}
 use Rattle.eql_sem.specs.Meaning.{base_among, rows_of, made, field_of, items, lists, values_of_all, bases, bases_of, finish, finished_parts, field_lists, clause, condition, key_lists, key_list, with_aliases, base_number, is_absent, has_no_keys, orders_of, order_of}
@@ -127,9 +129,29 @@ module _ (w : World) where
   unfolding items carrier.hidden block.hidden-the_row-Expr-0
   items_if n c ns b = refl
 
-  pub items_shaped : (n : ℕ) (x : Expr) (k : ℕ) (es : List Element) (ns : List Name) (b : List Bound) → items w (form.Shaped n x k es) ns b ≡ dress (strip (items w x ns b))
+  pub items_shaped : (n : ℕ) (x : Expr) (y : Option Ty) (k : ℕ) (es : List Element) (ns : List Name) (b : List Bound) → items w (form.Shaped n x y k es) ns b ≡ dress (strip (items w x ns b))
   unfolding items carrier.hidden block.hidden-the_row-Expr-0
-  items_shaped n x k es ns b = refl
+  items_shaped n x y k es ns b = refl
+
+  pub items_array : (n : ℕ) (t : Option ScalarTy) (xs : List Expr) (ns : List Name) (b : List Bound) → items w (form.Array n t xs) ns b ≡ dress (arrayed (map strip (lists_of w xs ns b)))
+  unfolding items
+  items_array n t xs ns b = ap (λ l. dress (arrayed (map strip l))) (lists_row xs ns b)
+
+  pub items_array_cast : (n : ℕ) (t : ScalarTy) (x : Expr) (ns : List Name) (b : List Bound) → items w (form.ArrayCast n t x) ns b ≡ dress (strip (items w x ns b))
+  unfolding items carrier.hidden block.hidden-the_row-Expr-0
+  items_array_cast n t x ns b = refl
+
+  pub items_unpack : (n : ℕ) (x : Expr) (ns : List Name) (b : List Bound) → items w (form.Unpack n x) ns b ≡ dress (unpacked (strip (items w x ns b)))
+  unfolding items carrier.hidden block.hidden-the_row-Expr-0
+  items_unpack n x ns b = refl
+
+  pub items_empty_set : (n : ℕ) (t : Ty) (ns : List Name) (b : List Bound) → items w (form.EmptySet n t) ns b ≡ []
+  unfolding items
+  items_empty_set n t ns b = refl
+
+  pub items_unfit : (n : ℕ) (m : Misfit) (k : ℕ) (xs : List Expr) (ns : List Name) (b : List Bound) → items w (form.Unfit n m k xs) ns b ≡ []
+  unfolding items
+  items_unfit n m k xs ns b = refl
 
   aliases_row : (xs : List Alias) (gives : Gives Formed) (ns : List Name) (b : List Bound) → with_aliases w (block.hidden-the_row-Alias-4 xs) gives ns b ≡ aliased w xs gives ns b
   unfolding items carrier.hidden block.hidden-the_row-Alias-4
@@ -197,10 +219,10 @@ module _ (w : World) where
       (bind (extensions w (base_among (bases w x)) fs ns b) (rows_of w k (items w x) (condition_values w f) (λ ms a. gathered (keys_of w ks ms a)) (within fs ns)))
       (λ row. made w (finish w x) (within fs ns) row.now row.item)
 
-  rolled : (n : ℕ) (xs : List Alias) (x : Expr) (k : ℕ) (f : Option Scope) (ks : List Key) (o l : Option Scope) (ns : List Name) (b : List Bound)
-      → items w (form.Select n xs (roll-Select (record { subject = x; number = k; filter = f; keys = ks; offset = o; limit = l }))) ns b ≡ aliased w xs (parts x k f ks o l) ns b
+  rolled : (n : ℕ) (xs : List Alias) (x : Expr) (y : Option Ty) (k : ℕ) (f : Option Scope) (ks : List Key) (o l : Option Scope) (ns : List Name) (b : List Bound)
+      → items w (form.Select n xs (roll-Select (record { subject = x; ty = y; number = k; filter = f; keys = ks; offset = o; limit = l }))) ns b ≡ aliased w xs (parts x k f ks o l) ns b
   unfolding items roll-Select carrier.roll carrier.hidden block.hidden-the_row-Expr-0 parts
-  rolled n xs x k f ks o l ns b =
+  rolled n xs x y k f ks o l ns b =
       ap (λ (g : Gives Formed). with_aliases w (block.hidden-the_row-Alias-4 xs) g ns b)
       (λ i ms a.
       let fs = factored (direct x false) (all x ++ occurring.clause f i ++ occurring.keys ks i) (paths_of ms) in
@@ -213,7 +235,7 @@ module _ (w : World) where
   unfolding parts
   items_select n xs s ns b =
       let r = out-Select s in
-      ap (λ s. items w (form.Select n xs s) ns b) (sym (roll-out-Select s)) ∙ rolled n xs r.subject r.number r.filter r.keys r.offset r.limit ns b
+      ap (λ s. items w (form.Select n xs s) ns b) (sym (roll-out-Select s)) ∙ rolled n xs r.subject r.ty r.number r.filter r.keys r.offset r.limit ns b
 
   -- ---- bases
 
@@ -289,9 +311,29 @@ module _ (w : World) where
   unfolding items
   bases_if n c = bases_one c.condition
 
-  pub bases_shaped : (n : ℕ) (x : Expr) (k : ℕ) (es : List Element) → bases w (form.Shaped n x k es) ≡ bases w x
+  pub bases_shaped : (n : ℕ) (x : Expr) (y : Option Ty) (k : ℕ) (es : List Element) → bases w (form.Shaped n x y k es) ≡ bases w x
   unfolding items
-  bases_shaped n x k es = bases_one x
+  bases_shaped n x y k es = bases_one x
+
+  pub base_array : (n : ℕ) (t : Option ScalarTy) (xs : List Expr) (k : ℕ) (ns : List Name) (b : List Bound) → base_found (bases w (form.Array n t xs)) k ns b ≡ base_in_all w xs k ns b
+  unfolding items
+  base_array n t xs k ns b = bases_row xs k ns b
+
+  pub base_unfit : (n : ℕ) (m : Misfit) (j : ℕ) (xs : List Expr) (k : ℕ) (ns : List Name) (b : List Bound) → base_found (bases w (form.Unfit n m j xs)) k ns b ≡ base_in_all w xs k ns b
+  unfolding items
+  base_unfit n m j xs k ns b = bases_row xs k ns b
+
+  pub bases_array_cast : (n : ℕ) (t : ScalarTy) (x : Expr) → bases w (form.ArrayCast n t x) ≡ bases w x
+  unfolding items
+  bases_array_cast n t x = bases_one x
+
+  pub bases_unpack : (n : ℕ) (x : Expr) → bases w (form.Unpack n x) ≡ bases w x
+  unfolding items
+  bases_unpack n x = bases_one x
+
+  pub bases_empty_set : (n : ℕ) (t : Ty) → bases w (form.EmptySet n t) ≡ []
+  unfolding items
+  bases_empty_set n t = refl
 
   pub bases_literal : (n : ℕ) (v : Val) → bases w (form.Literal n v) ≡ []
   unfolding items
@@ -348,11 +390,11 @@ module _ (w : World) where
   unfolding items
   finish_tuple n xs ns b fs = ap (λ l. bind (gathered l) (λ gs. one (shape.Tuple gs))) (finished_row xs ns b fs)
 
-  pub finish_shaped : (n : ℕ) (x : Expr) (k : ℕ) (es : List Element) (ns : List Name) (b : List Bound) (f : Form)
-      → finish w (form.Shaped n x k es) ns b f
+  pub finish_shaped : (n : ℕ) (x : Expr) (y : Option Ty) (k : ℕ) (es : List Element) (ns : List Name) (b : List Bound) (f : Form)
+      → finish w (form.Shaped n x y k es) ns b f
       ≡ bind (gathered (fields_of w es (name.Prefix (subject k) ∷ ns) (subject_of f ∷ b))) (λ gs. one (shape.Shape gs))
   unfolding items
-  finish_shaped n x k es ns b f = ap (λ l. bind (gathered l) (λ gs. one (shape.Shape gs))) (fields_row es (name.Prefix (subject k) ∷ ns) (subject_of f ∷ b))
+  finish_shaped n x y k es ns b f = ap (λ l. bind (gathered l) (λ gs. one (shape.Shape gs))) (fields_row es (name.Prefix (subject k) ∷ ns) (subject_of f ∷ b))
 
   pub finish_literal : (n : ℕ) (v : Val) (ns : List Name) (b : List Bound) (f : Form) → finish w (form.Literal n v) ns b f ≡ one f
   unfolding items
@@ -422,6 +464,26 @@ module _ (w : World) where
   unfolding items
   finish_for n xs k s t ns b f = refl
 
+  pub finish_array : (n : ℕ) (t : Option ScalarTy) (xs : List Expr) (ns : List Name) (b : List Bound) (f : Form) → finish w (form.Array n t xs) ns b f ≡ one f
+  unfolding items
+  finish_array n t xs ns b f = refl
+
+  pub finish_array_cast : (n : ℕ) (t : ScalarTy) (x : Expr) (ns : List Name) (b : List Bound) (f : Form) → finish w (form.ArrayCast n t x) ns b f ≡ one f
+  unfolding items
+  finish_array_cast n t x ns b f = refl
+
+  pub finish_unpack : (n : ℕ) (x : Expr) (ns : List Name) (b : List Bound) (f : Form) → finish w (form.Unpack n x) ns b f ≡ one f
+  unfolding items
+  finish_unpack n x ns b f = refl
+
+  pub finish_empty_set : (n : ℕ) (t : Ty) (ns : List Name) (b : List Bound) (f : Form) → finish w (form.EmptySet n t) ns b f ≡ one f
+  unfolding items
+  finish_empty_set n t ns b f = refl
+
+  pub finish_unfit : (n : ℕ) (m : Misfit) (k : ℕ) (xs : List Expr) (ns : List Name) (b : List Bound) (f : Form) → finish w (form.Unfit n m k xs) ns b f ≡ one f
+  unfolding items
+  finish_unfit n m k xs ns b f = refl
+
   pub finish_tuple_value : (n : ℕ) (xs : List Expr) (ns : List Name) (b : List Bound) (v : Val) → finish w (form.Tuple n xs) ns b (shape.Value v) ≡ one (shape.Value v)
   unfolding items
   finish_tuple_value n xs ns b v = refl
@@ -430,8 +492,8 @@ module _ (w : World) where
   unfolding items
   finish_tuple_shape n xs ns b fs = refl
 
-pub ruleset finish_forms = (finish_tuple, finish_tuple_value, finish_tuple_shape, finish_shaped, finish_literal, finish_param, finish_global, finish_path, finish_on_base, finish_operation, finish_plus, finish_cast, finish_optional_equal, finish_in_set, finish_of_set, finish_union, finish_set, finish_coalesce, finish_if, finish_select, finish_for)
+pub ruleset finish_forms = (finish_tuple, finish_tuple_value, finish_tuple_shape, finish_shaped, finish_literal, finish_param, finish_global, finish_path, finish_on_base, finish_operation, finish_plus, finish_cast, finish_optional_equal, finish_in_set, finish_of_set, finish_union, finish_set, finish_coalesce, finish_if, finish_select, finish_for, finish_array, finish_array_cast, finish_unpack, finish_empty_set, finish_unfit)
 
-pub ruleset item_forms = (items_literal, items_param, items_global, items_path, items_on_base, items_operation, items_plus, items_cast, items_tuple, items_optional_equal, items_in_set, items_of_set, items_union, items_set, items_coalesce, items_if, items_shaped, items_select, items_for)
+pub ruleset item_forms = (items_literal, items_param, items_global, items_path, items_on_base, items_operation, items_plus, items_cast, items_tuple, items_optional_equal, items_in_set, items_of_set, items_union, items_set, items_coalesce, items_if, items_shaped, items_select, items_for, items_array, items_array_cast, items_unpack, items_empty_set, items_unfit)
 
 pub ruleset key_forms = (key_ascending, key_descending, order_ascending, order_descending)

@@ -3,3 +3,4 @@ pub mod Equations
 pub mod LongestPrefix
 pub mod Cutting
 pub mod ValueForms
+pub mod Elements

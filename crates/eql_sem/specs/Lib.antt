@@ -7,3 +7,4 @@ pub mod Scopes
 pub mod Selects
 pub mod Meaning
 pub mod Parts
+pub mod Laws

@@ -12,6 +12,7 @@ use Rattle.ev_value.specs.declared.item.Item.TheVariants as item
 use Rattle.ev_value.specs.declared.operator.Op.{Op}
 use Rattle.ev_value.specs.declared.value.ScalarTy.{ScalarTy}
 use Rattle.ev_value.specs.declared.value.Val.{Val}
+use Rattle.ev_value.specs.declared.value.Val as value
 use Rattle.ev_value.specs.declared.value.Val.TheVariants as made
 use Rattle.ev_list.specs.Aggregate.{count_item, sum_item, least, greatest, any_item, all_item, is_true}
 use Rattle.ev_list.specs.Occurrence.{distinct}
@@ -50,6 +51,24 @@ tuple_of xs = record { value = made.Tuple (map (λ x. x.value) xs); form = form.
 -- the tuples of the components' items
 abbrev pub tupled : List (List (Item Formed)) → List (Item Formed)
 tupled components = bind (product components) (λ xs. one (tuple_of xs))
+
+-- the arrays of the elements' values, one of each list
+abbrev pub arrayed : List (List (Item Val)) → List (Item Val)
+arrayed elements = bind (product elements) (λ vs. one (made.Array vs))
+
+-- the values of a row, in their order
+abbrev pub values_in_row : {m : _} → value.Row_of-Val m → List Val
+values_in_row value.end_of-Val = []
+values_in_row (value.more_of-Val v rest) = v ∷ values_in_row rest
+
+-- the elements of an array, in their order; other values have none
+unfoldable pub elements_of : Val → List Val
+elements_of (value.Array' _ elements) = values_in_row elements
+elements_of _ = []
+
+-- the elements of each array in turn
+abbrev pub unpacked : List (Item Val) → List (Item Val)
+unpacked xs = bind xs (λ v. all_of (elements_of v))
 
 -- the truth itself, or its opposite
 abbrev pub turned : Bool → Bool → Bool
@@ -113,6 +132,7 @@ of_values function.Distinct vs = all_of (distinct same vs)
 of_values function.AssertSingle vs = asserted (single_fault vs) vs
 of_values function.AssertExists vs = asserted (exists_fault vs) vs
 of_values function.AssertDistinct vs = asserted (distinct_fault same vs) vs
+of_values function.ArrayAgg vs = one (made.Array vs)
 
 -- a function of a set: the faults of the set alone where it has some
 abbrev pub of_set : SetFunction → List (Item Val) → List (Item Val)

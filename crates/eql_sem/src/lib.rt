@@ -10,6 +10,7 @@ mod binding;
 mod copies;
 mod form;
 mod item;
+mod laws;
 mod nested;
 mod operation;
 mod path_list;
@@ -20,9 +21,11 @@ pub use binding::{Bound, Name, copied_bounds, given, listed, pick, with_bound, w
 pub use copies::Copies;
 pub use form::{Form, FormField, Formed};
 pub use item::{Settled, bare, dress, fault_items, one, settle, strip};
+pub use laws::{packed_is_unpacked, tuples_have_their_components_forms};
 pub use nested::{field, forms_of, root_name, shapes, subject_bound, tuples, with_value};
 pub use operation::{
-    cast_to, chosen, coalesced, gathered, in_set, of_set, operated, optional_equal, tupled,
+    arrayed, cast_to, chosen, coalesced, gathered, in_set, of_set, operated, optional_equal,
+    tupled, unpacked,
 };
 pub use path_list::{
     add_turns, copied_names, from_bound, last_property, nearest, prefixes_of_scope,

@@ -1,10 +1,10 @@
 //! What operators and functions make of the lists of their operands.
 ghost use Rattle.std.specs.Prelude.{◌≡◌, ◌∷◌, ◌++◌, [], IfOk, OnOk, Bool};
 ghost use Rattle.std.specs.List.{list_any};
-ghost use Rattle.ev_value.specs.Item.{bind, both, one as one_of};
+ghost use Rattle.ev_value.specs.Item.{bind, both, one as one_of, all_of};
 ghost use Rattle.ev_value.specs.Operator.{item_of_op, bool_item};
 ghost use Rattle.ev_value.specs.Casts.{item_of_cast};
-ghost use Rattle.eql_sem.specs.Operations.{product as product_of, gathered as gathered_of, operated as operated_by, cast_to as cast_items, tupled as tuples_of, tuple_of, turned as turned_by, same as same_value, same_place as same_places, or_empty as places_of, optional_equal as optionally_equal, in_set as is_in_set, asserted as asserted_list, optional as optional_list, of_values as function_of, of_set as set_function, coalesced as coalesced_lists, chosen as chosen_lists, equal_places, member_items, branch_items, later_faults};
+ghost use Rattle.eql_sem.specs.Operations.{product as product_of, gathered as gathered_of, operated as operated_by, cast_to as cast_items, tupled as tuples_of, tuple_of, turned as turned_by, same as same_value, same_place as same_places, or_empty as places_of, optional_equal as optionally_equal, in_set as is_in_set, asserted as asserted_list, optional as optional_list, of_values as function_of, of_set as set_function, coalesced as coalesced_lists, chosen as chosen_lists, equal_places, member_items, branch_items, later_faults, arrayed as arrays_of, unpacked as elements_in, elements_of};
 
 use crate::copies::Copies;
 use crate::form::{Form, Formed};
@@ -16,7 +16,9 @@ use ev_list::{
     all_true, any_true, count, distinct, distinct_fault, exists_fault, greatest, is_true, least,
     single_fault, sum,
 };
-use ev_value::{Fault, Item, List, Op, OpError, ScalarTy, Val, apply_op, cast, cmp_val};
+use ev_value::{
+    Fault, Item, List, Op, OpError, ScalarTy, Val, apply_op, cast, cmp_val, copied_values,
+};
 use std::alloc::{AllocError, Global};
 
 // A value in front of others.
@@ -216,6 +218,54 @@ pub fn tupled(alloc: Global, lists: &[List<Item<Formed>>]) -> Result<List<Item<F
     Ok(all)
 }
 
+/// The arrays of the elements' values.
+pub fn arrayed(alloc: Global, lists: &[List<Item>]) -> Result<List<Item>, AllocError>
+    ensures { IfOk result (λ xs. xs ≡ arrays_of lists.now) }
+{
+    let turns = product(alloc, lists)?;
+    let mut all = List::new(alloc);
+    for turn in turns.as_slice() {
+        let item = match turn {
+            Item::Value(values) => {
+                Item::Value(Val::Array(copied_values(alloc, values.as_slice())?))
+            }
+            Item::Fault(fault) => Item::Fault(*fault),
+        };
+        all.push(item)?;
+    }
+    Ok(all)
+}
+
+// Appends the elements of an array, in their order; another value has none.
+#[tactic(auto, using(crate::proofs::Elements::elements_of_each))]
+fn add_elements(alloc: Global, value: &Val, all: &mut List<Item>) -> Result<(), AllocError>
+    ensures { OnOk result (all.new ≡ all.old ++ all_of (elements_of value.now)) }
+{
+    match value {
+        Val::Array(elements) => all.append(all_values(alloc, elements.as_slice())?),
+        Val::Int(_) => Ok(()),
+        Val::Str(_) => Ok(()),
+        Val::Bool(_) => Ok(()),
+        Val::Id(_) => Ok(()),
+        Val::Obj(_) => Ok(()),
+        Val::Tuple(_) => Ok(()),
+    }
+}
+
+/// The elements of each array in turn.
+pub fn unpacked(alloc: Global, items: &[Item]) -> Result<List<Item>, AllocError>
+    ensures { IfOk result (λ xs. xs ≡ elements_in items.now) }
+{
+    let mut all = List::new(alloc);
+    for item in items {
+        match item {
+            Item::Value(value) => add_elements(alloc, value, &mut all)?,
+            Item::Fault(fault) => all.push(Item::Fault(*fault))?,
+        }
+    }
+    Ok(all)
+}
+
 fn turned(negated: bool, truth: bool) -> bool
     ensures { result ≡ turned_by negated truth }
 {
@@ -382,6 +432,7 @@ fn of_values(
         SetFunction::AssertSingle => asserted(alloc, single_fault(all), all),
         SetFunction::AssertExists => asserted(alloc, exists_fault(all), all),
         SetFunction::AssertDistinct => asserted(alloc, distinct_fault(all), all),
+        SetFunction::ArrayAgg => one(alloc, Item::Value(Val::Array(values))),
     }
 }
 

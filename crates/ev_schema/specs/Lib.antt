@@ -4,3 +4,4 @@ pub mod Policies
 pub mod Pointers
 pub mod Named
 pub mod Numbered
+pub mod Steps

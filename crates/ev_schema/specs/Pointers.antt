@@ -22,6 +22,7 @@ id_pointer pointers = record { 0 = length pointers - 1 }
 abbrev pub is_id : List PtrInfo → PtrId → Bool
 is_id pointers p = suc p.0 == length pointers
 
+-- whether there is such a pointer and it has a name
 abbrev pub has_name : Option PtrInfo → List ℕ → Bool
 has_name None n = false
 has_name (Some info) n = bytes_eq info.name n
@@ -35,6 +36,7 @@ first_named pointers (p ∷ more) n = if has_name (slice_get pointers p.0) n the
 abbrev pub id_named : List PtrInfo → List ℕ → Option PtrId
 id_named pointers n = first_named pointers (id_pointer pointers ∷ []) n
 
+-- what is found, or else `id` where that is the name
 abbrev pub or_id : Option PtrId → Option PtrId → Option PtrId
 or_id (Some p) other = Some p
 or_id None other = other
@@ -58,5 +60,6 @@ abbrev pub weakened_by : Schema → Card → Option TypeId → Card
 weakened_by s c None = c
 weakened_by s c (Some t) = if governed_below s.types s.policies t (length s.types) then card_with 0 (most c) else c
 
+-- the bounds of a pointer as a caller sees them
 abbrev pub weakened : Schema → PtrInfo → Card
 weakened s info = weakened_by s info.card (target_of info.body)

@@ -13,6 +13,7 @@ use Rattle.ev_schema.specs.declared.policy.Policy.{Policy}
 use Rattle.ev_schema.specs.declared.types.TypeInfo.{TypeInfo}
 use Rattle.ev_schema.specs.Types.{is_subtype}
 
+-- the name of a type as a key; none where there is no such type
 abbrev pub name_if_known : Option TypeInfo → Option Val
 name_if_known None = None
 name_if_known (Some info) = Some (made.Str info.name)

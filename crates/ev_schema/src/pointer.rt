@@ -32,7 +32,7 @@ pub struct LinkProperty {
 /// Where the values of a pointer come from.
 #[derive(Drop)]
 pub enum Body {
-    /// From the objects. The type is a scalar or an object type.
+    /// From the objects. The type is a scalar, an array of scalars or an object type.
     Stored(Ty),
     /// From an expression over the object, which a schema has beside its pointers once it is known.
     Computed,

@@ -1,6 +1,5 @@
--- The parameters of each form, at the code's constructors.
+-- The ARGs of each form, at the code's constructors.
 use Rattle.std.proofs.Common.{◌≡◌, ℕ, ℤ, Bool, List, [], ◌∷◌, ◌++◌, Option, Some, None, refl, ap, sym, ◌∙◌, subst, append_assoc, Result, OnOk}
-use Rattle.ev_list.specs.declared.param.Param.{Param}
 use Rattle.ev_value.proofs.Items.{append_nil}
 use Rattle.ev_list.specs.declared.order.Absent.{Absent}
 use Rattle.sql_ast.specs.declared.expression.Binary.{Binary}
@@ -19,20 +18,21 @@ use Rattle.sql_ast.specs.declared.select.FromItem.TheVariants as from
 use Rattle.sql_ast.specs.declared.select.Key.{Key}
 use Rattle.sql_ast.specs.declared.select.Key.TheVariants as key
 use Rattle.sql_ast.specs.declared.select.Select.{Select}
+use Rattle.sql_ast.specs.declared.catalog.Typed.{Typed}
 use Rattle.sql_ast.specs.declared.ty.SqlTy.{SqlTy}
 use Rattle.sql_ast.specs.declared.ty.SqlTy.TheBlock as ty_block
 use Rattle.sql_ast.specs.declared.ty.SqlTy.TheVariants as ty
 use Rattle.sql_ast.specs.ParamLists.{args_in_body, args_in_columns, args_in_exprs, args_in_items, args_in_keys, args_in_option}
-use Rattle.sql_ast.specs.Params.{arg_of, args_of_columns, args_of_core, args_of_cores, args_of_cores_list, args_of_expr, args_of_exprs, args_of_item, args_of_items, args_of_key, args_of_keys, args_of_option}
+use Rattle.sql_ast.specs.Params.{args_of_columns, args_of_core, args_of_cores, args_of_cores_list, args_of_expr, args_of_exprs, args_of_item, args_of_items, args_of_key, args_of_keys, args_of_option, param_of}
 use denote.Hole.Carrier as carrier
 
-pub arg_row : (name : List ℕ) (ts : List SqlTy) → arg_of name (ty.Row ts) ≡ []
+pub param_row : (name : List ℕ) (ts : List SqlTy) → param_of name (ty.Row ts) ≡ []
 unfolding ty_block.hidden-the_row-SqlTy-0 carrier.hidden
-arg_row name ts = refl
+param_row name ts = refl
 
-pub arg_array : (name : List ℕ) (t : SqlTy) → arg_of name (ty.Array t) ≡ []
+pub param_array : (name : List ℕ) (t : SqlTy) → param_of name (ty.Array t) ≡ []
 unfolding ty_block.hidden-the_row-SqlTy-1 carrier.hidden
-arg_array name t = refl
+param_array name t = refl
 
 -- ---- lists and options
 
@@ -100,7 +100,7 @@ pub of_column : (alias name : List ℕ) → args_of_expr (expr.Column alias name
 unfolding args_of_expr
 of_column alias name = refl
 
-pub of_arg : (name : List ℕ) (t : SqlTy) → args_of_expr (expr.Arg name t) ≡ arg_of name t
+pub of_arg : (name : List ℕ) (t : SqlTy) → args_of_expr (expr.Arg name t) ≡ record { name = name; ty = t } ∷ []
 unfolding args_of_expr
 of_arg name t = refl
 
@@ -171,8 +171,8 @@ of_descending value nulls = refl
 
 -- ---- what is added
 
-pub no_args : (all xs : List Param) → xs ≡ [] → all ≡ all ++ xs
+pub no_args : (all xs : List Typed) → xs ≡ [] → all ≡ all ++ xs
 no_args all xs h = sym (ap (λ l. all ++ l) h ∙ append_nil all)
 
-pub core_args : {T E : Type 0} (r : Result T E) (all first new : List Param) (cs bs xs : List Param) → first ≡ all ++ cs → OnOk r (new ≡ first ++ bs) → xs ≡ cs ++ bs → OnOk r (new ≡ all ++ xs)
+pub core_args : {T E : Type 0} (r : Result T E) (all first new : List Typed) (cs bs xs : List Typed) → first ≡ all ++ cs → OnOk r (new ≡ first ++ bs) → xs ≡ cs ++ bs → OnOk r (new ≡ all ++ xs)
 core_args r all first new cs bs xs e h x = subst (λ l. OnOk r (new ≡ l)) (ap (λ l. l ++ bs) e ∙ append_assoc all cs bs ∙ sym (ap (λ l. all ++ l) x)) h

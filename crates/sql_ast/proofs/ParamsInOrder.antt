@@ -8,7 +8,7 @@ use Rattle.ev_value.proofs.Orders.{text_same}
 use Rattle.ev_value.specs.declared.value.ScalarTy.{ScalarTy}
 use Rattle.ev_list.specs.declared.param.Param.{Param}
 use Rattle.sql_ast.specs.ParamLaws.{NamesRise, ParamsAreThoseThatOccur}
-use Rattle.sql_ast.specs.Params.{args_of, type_of_param, with_param}
+use Rattle.sql_ast.specs.Params.{args_of, scalar_params, type_of_param, with_param}
 use Rattle.sql_ast.specs.declared.select.Stmt.{Stmt}
 
 abbrev cmp : List ℕ → List ℕ → Ordering
@@ -122,4 +122,4 @@ all_typed name done (p ∷ ps) r =
     ∙ or_between (type_of_param name done) (bytes_eq p.name name) p.ty (type_of_param name ps)
 
 pub those_that_occur : ParamsAreThoseThatOccur
-those_that_occur = record { rise = λ s. all_rise [] (args_of s) tt; occur = λ s name. all_typed name [] (args_of s) tt }
+those_that_occur = record { rise = λ s. all_rise [] (scalar_params (args_of s)) tt; occur = λ s name. all_typed name [] (scalar_params (args_of s)) tt }

@@ -3,7 +3,6 @@
 use Rattle.std.specs.Prelude.{◌≡◌, ◌≢◌, ◌≤◌, ℕ, suc, List, [], ◌∷◌, map, codes, ℤ, pos, ◌≤ℤ◌, Option, Some, None, slice_get, Contains, if◌then◌else◌}
 use Rattle.std.specs.Str.{bytes_eq}
 use Rattle.ev_value.specs.declared.value.ScalarTy.{ScalarTy}
-use Rattle.ev_list.specs.declared.param.Param.{Param}
 use Rattle.sql_ast.specs.declared.catalog.Catalog.{Catalog}
 use Rattle.sql_ast.specs.declared.catalog.TableShape.{TableShape}
 use Rattle.sql_ast.specs.declared.catalog.Typed.{Typed}
@@ -20,7 +19,7 @@ use Rattle.sql_ast.specs.declared.select.TheConstants.{MAX_NESTING}
 use Rattle.sql_ast.specs.declared.ty.SqlTy.{SqlTy}
 use Rattle.sql_ast.specs.declared.ty.SqlTy.TheVariants as ty
 use Rattle.sql_ast.specs.Nesting.{nesting}
-use Rattle.sql_ast.specs.Params.{args_of, type_of_param}
+use Rattle.sql_ast.specs.Params.{args_of}
 use Rattle.sql_ast.specs.Types.{INT, TEXT, BOOL, UUID, IsScalar, UnaryType, BinaryType, FunctionType, Casts}
 
 -- ---- names
@@ -74,8 +73,8 @@ alias_of (f.Unnest _ alias) = alias
 
 -- ---- types and forms
 
--- the statement's parameters are given by name with the type of the first ARG
-module _ (catalog : Catalog) (params : List Param) where
+-- the statement's ARGs are given in the order of the text: the first with a name says its type
+module _ (catalog : Catalog) (params : List Typed) where
   unfoldable mutual
     -- an expression has a type in a scope
     pub HasType : SqlExpr → Scope → SqlTy → Type 0
@@ -85,7 +84,7 @@ module _ (catalog : Catalog) (params : List Param) where
     HasType (e.Uuid _) d t = t ≡ UUID
     HasType (e.Null u) d t = t ≡ u
     HasType (e.Column alias name) d t = IsName alias × IsName name × (cs : List Typed) × (columns_under alias d ≡ Some cs) × (type_under name cs ≡ Some t)
-    HasType (e.Arg name u) d t = (s : ScalarTy) × (u ≡ ty.Scalar s) × (t ≡ u) × (type_of_param name params ≡ Some s)
+    HasType (e.Arg name u) d t = (s : ScalarTy) × (u ≡ ty.Scalar s) × (t ≡ u) × (type_under name params ≡ Some u)
     HasType (e.Global name) d t = type_under name catalog.globals ≡ Some t
     HasType (e.Array' _ cores) d t = (x : Typed) × HasColumns cores d (x ∷ []) × (t ≡ ty.Array x.ty)
     HasType (e.Row' _ parts) d t = (ts : List SqlTy) × HaveTypes parts d ts × (t ≡ ty.Row ts)

@@ -1,9 +1,10 @@
-//! The parameters of a statement.
-ghost use Rattle.std.specs.Prelude.{◌≡◌, [], ◌++◌, ◌≤◌, IfOk, IfSome, OnOk, fold, length};
+//! The ARGs of a statement, and its parameters.
+ghost use Rattle.std.specs.Prelude.{◌≡◌, [], ◌∷◌, ◌++◌, ◌≤◌, IfOk, IfSome, OnOk, fold, length};
 ghost use Rattle.sql_ast.specs.ParamLaws.{ParamsAreThoseThatOccur};
 ghost use Rattle.sql_ast.specs.ParamLists.{args_in_body, args_in_columns, args_in_exprs, args_in_items, args_in_keys, args_in_option, put_at};
-ghost use Rattle.sql_ast.specs.Params.{arg_of, args_of, args_of_core, args_of_cores_list, args_of_expr, args_of_item, args_of_key, params_of, with_param};
+ghost use Rattle.sql_ast.specs.Params.{args_of, args_of_core, args_of_cores_list, args_of_expr, args_of_item, args_of_key, param_of, params_of, scalar_params as scalar_params_of, with_param};
 
+use crate::catalog::Typed;
 use crate::expression::{Binary, Case, SqlExpr};
 use crate::select::{Body, Column, Core, FromItem, Key, Stmt};
 use crate::ty::SqlTy;
@@ -12,26 +13,19 @@ use ev_value::{List, Text};
 use std::alloc::{AllocError, Global};
 use std::cmp::Ordering;
 
-/// Adds ARG with its type, where that is scalar.
-#[tactic(auto, using(crate::proofs::ArgForms::arg_row, crate::proofs::ArgForms::arg_array))]
-fn add_arg(alloc: Global, name: &Text, ty: &SqlTy, all: &mut List<Param>) -> Result<(), AllocError>
-    ensures { OnOk result (all.new ≡ all.old ++ arg_of name.now ty.now) }
+/// Adds an ARG with its type.
+fn add_arg(alloc: Global, name: &Text, ty: &SqlTy, all: &mut List<Typed>) -> Result<(), AllocError>
+    ensures { OnOk result (all.new ≡ all.old ++ record { name = name.now; ty = ty.now } ∷ []) }
 {
-    match ty {
-        SqlTy::Scalar(ty) => all.push(Param {
-            name: name.copied(alloc)?,
-            ty: *ty,
-            optional: false,
-        }),
-        SqlTy::Row(_) => Ok(()),
-        SqlTy::Array(_) => Ok(()),
-    }
+    let name = name.copied(alloc)?;
+    let ty = ty.copied(alloc)?;
+    all.push(Typed { name, ty })
 }
 
 /// Adds each ARG of an expression, in the order of the text.
 #[cycle(args)]
 #[tactic(auto, using(crate::proofs::ArgForms::of_int, crate::proofs::ArgForms::of_text, crate::proofs::ArgForms::of_bool, crate::proofs::ArgForms::of_uuid, crate::proofs::ArgForms::of_null, crate::proofs::ArgForms::of_column, crate::proofs::ArgForms::of_arg, crate::proofs::ArgForms::of_global, crate::proofs::ArgForms::of_array, crate::proofs::ArgForms::of_row, crate::proofs::ArgForms::of_part, crate::proofs::ArgForms::of_case, crate::proofs::ArgForms::of_cast, crate::proofs::ArgForms::of_unary, crate::proofs::ArgForms::of_binary, crate::proofs::ArgForms::of_call))]
-fn add_expr(expr: &SqlExpr, alloc: Global, all: &mut List<Param>) -> Result<(), AllocError>
+fn add_expr(expr: &SqlExpr, alloc: Global, all: &mut List<Typed>) -> Result<(), AllocError>
     ensures { OnOk result (all.new ≡ all.old ++ args_of_expr expr.now) }
 {
     match expr {
@@ -55,7 +49,7 @@ fn add_expr(expr: &SqlExpr, alloc: Global, all: &mut List<Param>) -> Result<(), 
 }
 
 #[cycle(args)]
-fn add_case(form: &Case, alloc: Global, all: &mut List<Param>) -> Result<(), AllocError>
+fn add_case(form: &Case, alloc: Global, all: &mut List<Typed>) -> Result<(), AllocError>
     ensures { OnOk result (all.new ≡ all.old ++ (args_of_expr form.now.condition ++ (args_of_expr form.now.value ++ args_of_expr form.now.other))) }
 {
     add_expr(form.condition.get(), alloc, all)?;
@@ -64,7 +58,7 @@ fn add_case(form: &Case, alloc: Global, all: &mut List<Param>) -> Result<(), All
 }
 
 #[cycle(args)]
-fn add_binary(form: &Binary, alloc: Global, all: &mut List<Param>) -> Result<(), AllocError>
+fn add_binary(form: &Binary, alloc: Global, all: &mut List<Typed>) -> Result<(), AllocError>
     ensures { OnOk result (all.new ≡ all.old ++ (args_of_expr form.now.left ++ args_of_expr form.now.right)) }
 {
     add_expr(form.left.get(), alloc, all)?;
@@ -72,7 +66,7 @@ fn add_binary(form: &Binary, alloc: Global, all: &mut List<Param>) -> Result<(),
 }
 
 #[cycle(args)]
-fn add_exprs(exprs: &[SqlExpr], alloc: Global, all: &mut List<Param>) -> Result<(), AllocError>
+fn add_exprs(exprs: &[SqlExpr], alloc: Global, all: &mut List<Typed>) -> Result<(), AllocError>
     ensures { OnOk result (all.new ≡ all.old ++ args_in_exprs exprs.now) }
 {
     for expr in exprs {
@@ -82,7 +76,7 @@ fn add_exprs(exprs: &[SqlExpr], alloc: Global, all: &mut List<Param>) -> Result<
 }
 
 #[cycle(args)]
-fn add_cores(cores: &[Core], alloc: Global, all: &mut List<Param>) -> Result<(), AllocError>
+fn add_cores(cores: &[Core], alloc: Global, all: &mut List<Typed>) -> Result<(), AllocError>
     ensures { OnOk result (all.new ≡ all.old ++ args_of_cores_list cores.now) }
 {
     for core in cores {
@@ -93,7 +87,7 @@ fn add_cores(cores: &[Core], alloc: Global, all: &mut List<Param>) -> Result<(),
 
 #[cycle(args)]
 #[tactic(auto, using(crate::proofs::ArgForms::of_all, crate::proofs::ArgForms::of_distinct))]
-fn add_core(core: &Core, alloc: Global, all: &mut List<Param>) -> Result<(), AllocError>
+fn add_core(core: &Core, alloc: Global, all: &mut List<Typed>) -> Result<(), AllocError>
     ensures { OnOk result (all.new ≡ all.old ++ args_of_core core.now) }
 {
     match core {
@@ -109,7 +103,7 @@ fn add_core(core: &Core, alloc: Global, all: &mut List<Param>) -> Result<(), All
 }
 
 #[cycle(args)]
-fn add_columns(columns: &[Column], alloc: Global, all: &mut List<Param>) -> Result<(), AllocError>
+fn add_columns(columns: &[Column], alloc: Global, all: &mut List<Typed>) -> Result<(), AllocError>
     ensures { OnOk result (all.new ≡ all.old ++ args_in_columns columns.now) }
 {
     for column in columns {
@@ -119,7 +113,7 @@ fn add_columns(columns: &[Column], alloc: Global, all: &mut List<Param>) -> Resu
 }
 
 #[cycle(args)]
-fn add_body(body: &Body, alloc: Global, all: &mut List<Param>) -> Result<(), AllocError>
+fn add_body(body: &Body, alloc: Global, all: &mut List<Typed>) -> Result<(), AllocError>
     ensures { OnOk result (all.new ≡ all.old ++ args_in_body body.now) }
 {
     add_items(body.from.as_slice(), alloc, all)?;
@@ -131,7 +125,7 @@ fn add_body(body: &Body, alloc: Global, all: &mut List<Param>) -> Result<(), All
 }
 
 #[cycle(args)]
-fn add_bounds(body: &Body, alloc: Global, all: &mut List<Param>) -> Result<(), AllocError>
+fn add_bounds(body: &Body, alloc: Global, all: &mut List<Typed>) -> Result<(), AllocError>
     ensures { OnOk result (all.new ≡ all.old ++ (args_in_option body.now.offset ++ args_in_option body.now.limit)) }
 {
     if let Some(offset) = &body.offset {
@@ -144,7 +138,7 @@ fn add_bounds(body: &Body, alloc: Global, all: &mut List<Param>) -> Result<(), A
 }
 
 #[cycle(args)]
-fn add_items(items: &[FromItem], alloc: Global, all: &mut List<Param>) -> Result<(), AllocError>
+fn add_items(items: &[FromItem], alloc: Global, all: &mut List<Typed>) -> Result<(), AllocError>
     ensures { OnOk result (all.new ≡ all.old ++ args_in_items items.now) }
 {
     for item in items {
@@ -155,7 +149,7 @@ fn add_items(items: &[FromItem], alloc: Global, all: &mut List<Param>) -> Result
 
 #[cycle(args)]
 #[tactic(auto, using(crate::proofs::ArgForms::of_table, crate::proofs::ArgForms::of_lateral, crate::proofs::ArgForms::of_left, crate::proofs::ArgForms::of_unnest))]
-fn add_item(item: &FromItem, alloc: Global, all: &mut List<Param>) -> Result<(), AllocError>
+fn add_item(item: &FromItem, alloc: Global, all: &mut List<Typed>) -> Result<(), AllocError>
     ensures { OnOk result (all.new ≡ all.old ++ args_of_item item.now) }
 {
     match item {
@@ -167,7 +161,7 @@ fn add_item(item: &FromItem, alloc: Global, all: &mut List<Param>) -> Result<(),
 }
 
 #[cycle(args)]
-fn add_keys(keys: &[Key], alloc: Global, all: &mut List<Param>) -> Result<(), AllocError>
+fn add_keys(keys: &[Key], alloc: Global, all: &mut List<Typed>) -> Result<(), AllocError>
     ensures { OnOk result (all.new ≡ all.old ++ args_in_keys keys.now) }
 {
     for key in keys {
@@ -178,7 +172,7 @@ fn add_keys(keys: &[Key], alloc: Global, all: &mut List<Param>) -> Result<(), Al
 
 #[cycle(args)]
 #[tactic(auto, using(crate::proofs::ArgForms::of_ascending, crate::proofs::ArgForms::of_descending))]
-fn add_key(key: &Key, alloc: Global, all: &mut List<Param>) -> Result<(), AllocError>
+fn add_key(key: &Key, alloc: Global, all: &mut List<Typed>) -> Result<(), AllocError>
     ensures { OnOk result (all.new ≡ all.old ++ args_of_key key.now) }
 {
     match key {
@@ -202,13 +196,49 @@ fn place(param: &Param, all: &[Param]) -> Option<usize>
     Some(all.len())
 }
 
+/// Each ARG of a statement with its type, in the order of the text.
+pub fn all_args(alloc: Global, statement: &Stmt) -> Result<List<Typed>, AllocError>
+    ensures { IfOk result (λ all. all ≡ args_of statement.now) }
+{
+    let mut all = List::new(alloc);
+    add_cores(statement.select.cores.as_slice(), alloc, &mut all)?;
+    Ok(all)
+}
+
+/// Adds an ARG as a parameter, where its type is scalar.
+#[tactic(auto, using(crate::proofs::ArgForms::param_row, crate::proofs::ArgForms::param_array))]
+fn add_param(alloc: Global, arg: &Typed, all: &mut List<Param>) -> Result<(), AllocError>
+    ensures { OnOk result (all.new ≡ all.old ++ param_of arg.now.name arg.now.ty) }
+{
+    match &arg.ty {
+        SqlTy::Scalar(ty) => all.push(Param {
+            name: arg.name.copied(alloc)?,
+            ty: *ty,
+            optional: false,
+        }),
+        SqlTy::Row(_) => Ok(()),
+        SqlTy::Array(_) => Ok(()),
+    }
+}
+
+/// The ARGs with scalar types as parameters.
+fn scalar_params(alloc: Global, args: &[Typed]) -> Result<List<Param>, AllocError>
+    ensures { IfOk result (λ ps. ps ≡ scalar_params_of args.now) }
+{
+    let mut all = List::new(alloc);
+    for arg in args {
+        add_param(alloc, arg, &mut all)?;
+    }
+    Ok(all)
+}
+
 /// The parameters of a statement in the byte order of their names, each once, with the type of its first ARG.
 pub fn params(alloc: Global, statement: &Stmt) -> Result<List<Param>, AllocError>
     ensures { IfOk result (λ ps. ps ≡ params_of statement.now) }
 {
-    let mut args = List::new(alloc);
-    add_cores(statement.select.cores.as_slice(), alloc, &mut args)?;
-    in_name_order(alloc, args)
+    let args = all_args(alloc, statement)?;
+    let params = scalar_params(alloc, args.as_slice())?;
+    in_name_order(alloc, params)
 }
 
 /// Each parameter once, in the byte order of the names; the first with a name counts.

@@ -1,8 +1,8 @@
 //! Cores with their clauses, and selects.
-ghost use Rattle.std.specs.Prelude.{◌≡◌, IfOk};
+ghost use Rattle.std.specs.Prelude.{◌≡◌, IfOk, OnOk};
 ghost use Rattle.sql_grammar.specs.Trees as t;
 
-use crate::held::{boxed_beside, discard, pushed_beside};
+use crate::held::pushed_beside;
 use crate::types::above;
 use ev_value::{Boxed, List};
 use sql_ast::{Body, Core, Select};
@@ -46,6 +46,15 @@ pub fn first_column(
     Boxed::new(alloc, made)
 }
 
+/// Adds a column to a core, with its place and its height.
+fn add_column(g: &mut GrownCore, x: GrownColumn) -> Result<(), AllocError>
+    ensures { OnOk result (g.new ≡ t.added_column g.old x) }
+{
+    g.height = g.height.max(x.height);
+    g.columns.push(x.column)?;
+    g.places.push(x.place)
+}
+
 /// The core with a further column.
 #[inline(never)]
 pub fn added_column(
@@ -55,24 +64,18 @@ pub fn added_column(
 ) -> Result<Boxed<GrownCore>, AllocError>
     ensures { IfOk result (λ made. made ≡ t.added_column g x) }
 {
-    let (g, x) = (g.into_inner(), x.into_inner());
-    let (start, distinct) = (g.start, g.distinct);
-    let height = g.height.max(x.height);
-    let (columns, (places, at, body)) = pushed_beside(
-        g.columns,
-        x.column,
-        (g.places, x.place, g.body),
-    )?;
-    let (places, (columns, body)) = pushed_beside(places, at, (columns, body))?;
-    let made = GrownCore {
-        start,
-        distinct,
-        columns,
-        body,
-        places,
-        height,
-    };
+    let mut made = g.into_inner();
+    add_column(&mut made, x.into_inner())?;
     Boxed::new(alloc, made)
+}
+
+/// Adds an item to a core, with its place and its height.
+fn add_item(g: &mut GrownCore, x: GrownItem) -> Result<(), AllocError>
+    ensures { OnOk result (g.new ≡ t.with_item g.old x) }
+{
+    g.height = g.height.max(x.height);
+    g.body.from.push(x.item)?;
+    g.places.push(x.place)
 }
 
 /// The core with a further item.
@@ -84,42 +87,18 @@ pub fn with_item(
 ) -> Result<Boxed<GrownCore>, AllocError>
     ensures { IfOk result (λ made. made ≡ t.with_item g x) }
 {
-    let (g, x) = (g.into_inner(), x.into_inner());
-    let (start, distinct) = (g.start, g.distinct);
-    let height = g.height.max(x.height);
-    let (columns, places) = (g.columns, g.places);
-    let Body {
-        from,
-        condition,
-        keys,
-        offset,
-        limit,
-    } = g.body;
-    let (from, (columns, places, at, condition, keys, offset, limit)) = pushed_beside(
-        from,
-        x.item,
-        (columns, places, x.place, condition, keys, offset, limit),
-    )?;
-    let (places, (columns, from, condition, keys, offset, limit)) = pushed_beside(
-        places,
-        at,
-        (columns, from, condition, keys, offset, limit),
-    )?;
-    let made = GrownCore {
-        start,
-        distinct,
-        columns,
-        body: Body {
-            from,
-            condition,
-            keys,
-            offset,
-            limit,
-        },
-        places,
-        height,
-    };
+    let mut made = g.into_inner();
+    add_item(&mut made, x.into_inner())?;
     Boxed::new(alloc, made)
+}
+
+/// Puts a condition into a core, with its place and its height.
+fn put_condition(alloc: Global, g: &mut GrownCore, x: Grown) -> Result<(), AllocError>
+    ensures { OnOk result (g.new ≡ t.with_condition g.old x) }
+{
+    g.height = g.height.max(x.height);
+    g.body.condition = Some(Boxed::new(alloc, x.expr)?);
+    g.places.push(x.place)
 }
 
 /// The core with a condition.
@@ -131,44 +110,18 @@ pub fn with_condition(
 ) -> Result<Boxed<GrownCore>, AllocError>
     ensures { IfOk result (λ made. made ≡ t.with_condition g x) }
 {
-    let (g, x) = (g.into_inner(), x.into_inner());
-    let (start, distinct) = (g.start, g.distinct);
-    let height = g.height.max(x.height);
-    let (columns, places) = (g.columns, g.places);
-    let Body {
-        from,
-        condition,
-        keys,
-        offset,
-        limit,
-    } = g.body;
-    discard(condition);
-    let (condition, (columns, places, at, from, keys, offset, limit)) = boxed_beside(
-        alloc,
-        x.expr,
-        (columns, places, x.place, from, keys, offset, limit),
-    )?;
-    let condition = Some(condition);
-    let (places, (columns, from, condition, keys, offset, limit)) = pushed_beside(
-        places,
-        at,
-        (columns, from, condition, keys, offset, limit),
-    )?;
-    let made = GrownCore {
-        start,
-        distinct,
-        columns,
-        body: Body {
-            from,
-            condition,
-            keys,
-            offset,
-            limit,
-        },
-        places,
-        height,
-    };
+    let mut made = g.into_inner();
+    put_condition(alloc, &mut made, x.into_inner())?;
     Boxed::new(alloc, made)
+}
+
+/// Adds a key to a core, with its place and its height.
+fn add_key(g: &mut GrownCore, x: GrownKey) -> Result<(), AllocError>
+    ensures { OnOk result (g.new ≡ t.with_key g.old x) }
+{
+    g.height = g.height.max(x.height);
+    g.body.keys.push(x.key)?;
+    g.places.push(x.place)
 }
 
 /// The core with a further key.
@@ -180,42 +133,18 @@ pub fn with_key(
 ) -> Result<Boxed<GrownCore>, AllocError>
     ensures { IfOk result (λ made. made ≡ t.with_key g x) }
 {
-    let (g, x) = (g.into_inner(), x.into_inner());
-    let (start, distinct) = (g.start, g.distinct);
-    let height = g.height.max(x.height);
-    let (columns, places) = (g.columns, g.places);
-    let Body {
-        from,
-        condition,
-        keys,
-        offset,
-        limit,
-    } = g.body;
-    let (keys, (columns, places, at, from, condition, offset, limit)) = pushed_beside(
-        keys,
-        x.key,
-        (columns, places, x.place, from, condition, offset, limit),
-    )?;
-    let (places, (columns, from, condition, keys, offset, limit)) = pushed_beside(
-        places,
-        at,
-        (columns, from, condition, keys, offset, limit),
-    )?;
-    let made = GrownCore {
-        start,
-        distinct,
-        columns,
-        body: Body {
-            from,
-            condition,
-            keys,
-            offset,
-            limit,
-        },
-        places,
-        height,
-    };
+    let mut made = g.into_inner();
+    add_key(&mut made, x.into_inner())?;
     Boxed::new(alloc, made)
+}
+
+/// Puts an offset into a core, with its place and its height.
+fn put_offset(alloc: Global, g: &mut GrownCore, x: Grown) -> Result<(), AllocError>
+    ensures { OnOk result (g.new ≡ t.with_offset g.old x) }
+{
+    g.height = g.height.max(x.height);
+    g.body.offset = Some(Boxed::new(alloc, x.expr)?);
+    g.places.push(x.place)
 }
 
 /// The core with an offset.
@@ -227,44 +156,18 @@ pub fn with_offset(
 ) -> Result<Boxed<GrownCore>, AllocError>
     ensures { IfOk result (λ made. made ≡ t.with_offset g x) }
 {
-    let (g, x) = (g.into_inner(), x.into_inner());
-    let (start, distinct) = (g.start, g.distinct);
-    let height = g.height.max(x.height);
-    let (columns, places) = (g.columns, g.places);
-    let Body {
-        from,
-        condition,
-        keys,
-        offset,
-        limit,
-    } = g.body;
-    discard(offset);
-    let (offset, (columns, places, at, from, condition, keys, limit)) = boxed_beside(
-        alloc,
-        x.expr,
-        (columns, places, x.place, from, condition, keys, limit),
-    )?;
-    let offset = Some(offset);
-    let (places, (columns, from, condition, keys, offset, limit)) = pushed_beside(
-        places,
-        at,
-        (columns, from, condition, keys, offset, limit),
-    )?;
-    let made = GrownCore {
-        start,
-        distinct,
-        columns,
-        body: Body {
-            from,
-            condition,
-            keys,
-            offset,
-            limit,
-        },
-        places,
-        height,
-    };
+    let mut made = g.into_inner();
+    put_offset(alloc, &mut made, x.into_inner())?;
     Boxed::new(alloc, made)
+}
+
+/// Puts a limit into a core, with its place and its height.
+fn put_limit(alloc: Global, g: &mut GrownCore, x: Grown) -> Result<(), AllocError>
+    ensures { OnOk result (g.new ≡ t.with_limit g.old x) }
+{
+    g.height = g.height.max(x.height);
+    g.body.limit = Some(Boxed::new(alloc, x.expr)?);
+    g.places.push(x.place)
 }
 
 /// The core with a limit.
@@ -276,43 +179,8 @@ pub fn with_limit(
 ) -> Result<Boxed<GrownCore>, AllocError>
     ensures { IfOk result (λ made. made ≡ t.with_limit g x) }
 {
-    let (g, x) = (g.into_inner(), x.into_inner());
-    let (start, distinct) = (g.start, g.distinct);
-    let height = g.height.max(x.height);
-    let (columns, places) = (g.columns, g.places);
-    let Body {
-        from,
-        condition,
-        keys,
-        offset,
-        limit,
-    } = g.body;
-    discard(limit);
-    let (limit, (columns, places, at, from, condition, keys, offset)) = boxed_beside(
-        alloc,
-        x.expr,
-        (columns, places, x.place, from, condition, keys, offset),
-    )?;
-    let limit = Some(limit);
-    let (places, (columns, from, condition, keys, offset, limit)) = pushed_beside(
-        places,
-        at,
-        (columns, from, condition, keys, offset, limit),
-    )?;
-    let made = GrownCore {
-        start,
-        distinct,
-        columns,
-        body: Body {
-            from,
-            condition,
-            keys,
-            offset,
-            limit,
-        },
-        places,
-        height,
-    };
+    let mut made = g.into_inner();
+    put_limit(alloc, &mut made, x.into_inner())?;
     Boxed::new(alloc, made)
 }
 

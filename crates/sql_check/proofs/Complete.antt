@@ -1,7 +1,6 @@
 -- No name and no type of a well-formed statement fails.
 use Rattle.std.proofs.Common.{◌≡◌, ℕ, Bool, true, not, List, [], ◌∷◌, ◌++◌, Option, Some, refl, ap, sym, ◌∙◌, subst}
 use Rattle.ev_value.specs.declared.value.ScalarTy.TheVariants as scalar
-use Rattle.ev_list.specs.declared.param.Param.{Param}
 use Rattle.sql_ast.specs.declared.catalog.Catalog.{Catalog}
 use Rattle.sql_ast.specs.declared.catalog.TableShape.{TableShape}
 use Rattle.sql_ast.specs.declared.catalog.Typed.{Typed}
@@ -16,23 +15,23 @@ use Rattle.sql_ast.specs.declared.select.Key.{Key}
 use Rattle.sql_ast.specs.declared.select.Stmt.{Stmt}
 use Rattle.sql_ast.specs.declared.ty.SqlTy.{SqlTy}
 use Rattle.sql_ast.specs.declared.ty.SqlTy.TheVariants as ty
-use Rattle.sql_ast.specs.Params.{args_of, params_of, type_of_param}
+use Rattle.sql_ast.specs.Params.{args_of}
 use Rattle.sql_ast.specs.Types.{INT, BOOL}
 use Rattle.sql_ast.specs.WellFormed.{Name, IsNotEmpty, IsWellFormed, AreApart, HasType, HaveTypes, HasColumns, AreLike, CoreHas, HaveAliases, ItemHas, ColumnsHave, AreKeys, IsKey, IsCondition, IsBound, AreAllLike, SelectHas, alias_of, columns_under, element_column, names_of, type_under, types_of}
 use Rattle.sql_ast.specs.WellFormed as formed
-use Rattle.sql_ast.proofs.ParamsInOrder.{those_that_occur}
 use Rattle.sql_grammar.specs.declared.grown.Places.{Places}
 use Rattle.sql_check.specs.declared.sort.Sort.{Sort}
 use Rattle.sql_check.specs.declared.verdict.Verdict.{Verdict}
 use Rattle.sql_check.specs.declared.verdict.Verdict.TheVariants.{Has}
 use Rattle.sql_check.specs.Laws.{HasNoFault}
 use Rattle.sql_check.specs.Names.{Scope, at_items, at_condition, at_keys, at_offset, at_limit, with_items, inside, gives_column, core_gives, select_gives, has_alias, has_column, is_among, is_listed, is_there, unless, names_in, names_in_all, names_in_cores, names_in_core, names_in_columns, names_in_items, names_in_item, names_in_keys, names_in_key, names_in_option, names_in_list}
-use Rattle.sql_check.specs.Types.{Sorts, known, over, failing, wanted, is_of, is_scalar, is_array, unary_verdict, binary_verdict, function_verdict, cast_verdict, part_verdict, case_verdict, arg_verdict, array_verdict, row_verdict, alike, unless_alike, all_types, type_in, with_first, sorts_of, table_sorts, element_sort, element_in, verdict, verdicts, select_sorts, core_sorts, column_sorts, within, item_sorts, types_in, types_in_all, types_in_cores, types_in_further, types_in_core, types_in_columns, types_in_items, types_in_item, types_in_keys, types_in_key, types_in_option, types_in_further_list, types_in_list}
+use Rattle.sql_check.specs.Types.{Sorts, known, over, failing, wanted, is_of, is_scalar, is_array, unary_verdict, binary_verdict, function_verdict, cast_verdict, part_verdict, arg_verdict, array_verdict, row_verdict, alike, unless_alike, choice_verdict, type_in, with_first, sorts_of, table_sorts, element_sort, element_in, verdict, verdicts, select_sorts, core_sorts, column_sorts, within, item_sorts, types_in, types_in_all, types_in_cores, types_in_further, types_in_core, types_in_columns, types_in_items, types_in_item, types_in_keys, types_in_key, types_in_option, types_in_further_list, types_in_list}
 use Rattle.sql_check.specs.Walk.{start, inner, rest, parts_of}
 use Rattle.sql_check.proofs.Emptiness.{none_of_both, six_none}
 use Rattle.sql_check.proofs.Judged.{unary_complete, binary_complete, function_complete, cast_complete, part_complete, case_complete, arg_complete, scalar_suits}
-use Rattle.sql_check.proofs.Scopes.{AreNew, AreAliases, IsGivenBy, Gives, sorted, type_listed, no_aliases, is_first, new_rest, one_alias, alias_is_new, with_more, column_is, type_is, all_typed, column_gives, element_gives}
-use Rattle.sql_check.proofs.TyForms.{element_array, like_itself}
+use Rattle.sql_check.proofs.Scopes.{AreNew, AreAliases, IsGivenBy, Gives, sorted, type_listed, no_aliases, is_first, new_rest, one_alias, alias_is_new, with_more, column_is, type_is, column_gives, element_gives}
+use Rattle.sql_check.proofs.TyForms.{element_array}
+use Rattle.sql_check.proofs.Verdicts.{types_like}
 
 -- ---- what is said of a form, by what is said of its parts
 
@@ -44,8 +43,7 @@ column_listed name o cs t e h = ap (λ (x : Option (List Typed)). is_listed name
 
 -- ---- the walk of the tree
 
--- the types of the parameters are asked of a list, and of one that gives the same answers
-module _ (catalog : Catalog) (params given : List Param) (same : (name : List ℕ) → type_of_param name given ≡ type_of_param name params) where
+module _ (catalog : Catalog) (given : List Typed) where
   -- no name and no type fails, and the type is the one that is said
   abbrev Suits : SqlExpr → List Places → List Places → Scope → formed.Scope → SqlTy → Type 0
   Suits x ps qs n d t = (names_in catalog x ps n ≡ []) × (types_in catalog given x qs (sorted d) ≡ []) × (verdict catalog given x (sorted d) ≡ Has t)
@@ -58,8 +56,8 @@ module _ (catalog : Catalog) (params given : List Param) (same : (name : List �
   SelectSuits xs ps qs n d cs = (names_in_cores catalog xs ps n ≡ []) × (types_in_cores catalog given xs qs (sorted d) ≡ []) × (select_sorts catalog given xs (sorted d) ≡ sorts_of cs) × IsGivenBy (λ name. select_gives name xs) cs
 
   -- the further cores are like the first
-  abbrev LikeSuits : {m : _} → Row_of-Core m → List SqlTy → List Places → List Places → Scope → formed.Scope → Type 0
-  LikeSuits xs ts ps qs n d = (names_in_cores catalog xs ps n ≡ []) × (types_in_further catalog given xs (Some ts) qs (sorted d) ≡ [])
+  abbrev LikeSuits : {m : _} → Row_of-Core m → List Typed → List Places → List Places → Scope → formed.Scope → Type 0
+  LikeSuits xs fs ps qs n d = (names_in_cores catalog xs ps n ≡ []) × (types_in_further catalog given xs (sorts_of fs) qs (sorted d) ≡ [])
 
   abbrev CoreSuits : Core → List Places → List Places → Scope → formed.Scope → List Typed → Type 0
   CoreSuits x ps qs n d cs = (names_in_core catalog x ps n ≡ []) × (types_in_core catalog given x qs (sorted d) ≡ []) × (core_sorts catalog given x (sorted d) ≡ sorts_of cs) × IsGivenBy (λ name. core_gives name x) cs
@@ -87,7 +85,7 @@ module _ (catalog : Catalog) (params given : List Param) (same : (name : List �
   mutual
     unfolding names_in types_in verdict HasType gives_column core_gives select_gives has_column inside
 
-    expr_complete : (x : SqlExpr) (ps qs : List Places) (n : Scope) (d : formed.Scope) (t : SqlTy) → Gives catalog n d → HasType catalog params x d t → Suits x ps qs n d t
+    expr_complete : (x : SqlExpr) (ps qs : List Places) (n : Scope) (d : formed.Scope) (t : SqlTy) → Gives catalog n d → HasType catalog given x d t → Suits x ps qs n d t
     expr_complete (e.Int z) ps qs n d t g h = (refl, refl, ap Has (sym h.1))
     expr_complete (e.Text text) ps qs n d t g h = (refl, refl, ap Has (sym h))
     expr_complete (e.Bool b) ps qs n d t g h = (refl, refl, ap Has (sym h))
@@ -96,12 +94,12 @@ module _ (catalog : Catalog) (params given : List Param) (same : (name : List �
     expr_complete (e.Column alias name) ps qs n d t g h =
         (ap (λ (b : Bool). unless b (start ps)) (column_is catalog alias name n d g ∙ column_listed name _ h.2 t h.3 h.4), refl, ap known (type_is alias name d ∙ ap (λ (o : Option (List Typed)). type_listed name o) h.3 ∙ h.4))
     expr_complete (e.Arg name u) ps qs n d t g h =
-        let is : arg_verdict u (type_of_param name given) ≡ Has t = (λ i. arg_verdict (h.1 i) ((same name ∙ h.3) i)) ∙ arg_complete h.0 ∙ ap Has (sym h.1) ∙ ap Has (sym h.2) in
+        let is : arg_verdict u (type_under name given) ≡ Has t = (λ i. arg_verdict (h.1 i) ((h.3 ∙ ap (λ (z : SqlTy). Some z) h.1) i)) ∙ arg_complete h.0 ∙ ap Has (sym h.1) ∙ ap Has (sym h.2) in
         (refl, none_fails _ t (start qs) is, is)
     expr_complete (e.Global name) ps qs n d t g h = (ap (λ (o : Option SqlTy). unless (is_there o) (start ps)) h, refl, ap known h)
     expr_complete (e.Array' _ cores) ps qs n d t g h =
         let a : SelectSuits cores (inner (inner ps)) (inner (inner qs)) n d (h.0 ∷ []) = cores_complete cores (inner (inner ps)) (inner (inner qs)) n d (h.0 ∷ []) g h.1 in
-        let is : array_verdict (all_types (select_sorts catalog given cores (sorted d))) ≡ Has t = ap (λ (l : List Sort). array_verdict (all_types l)) a.2 ∙ ap Has (sym h.2) in
+        let is : array_verdict (select_sorts catalog given cores (sorted d)) ≡ Has t = ap (λ (l : List Sort). array_verdict l) a.2 ∙ ap Has (sym h.2) in
         (a.0, none_of_both _ _ a.1 (none_fails _ t (start qs) is), is)
     expr_complete (e.Row' _ parts) ps qs n d t g h =
         let a : AllSuit parts (inner ps) (inner qs) n d h.0 = exprs_complete parts (inner ps) (inner qs) n d h.0 g h.1 in
@@ -115,8 +113,7 @@ module _ (catalog : Catalog) (params given : List Param) (same : (name : List �
         let b : Suits y (rest (inner ps)) (rest (inner qs)) n d t = expr_complete y (rest (inner ps)) (rest (inner qs)) n d t g h.1 in
         let c : Suits z (rest (rest (inner ps))) (rest (rest (inner qs))) n d t = expr_complete z (rest (rest (inner ps))) (rest (rest (inner qs))) n d t g h.2 in
         let truth : wanted (is_of scalar.Bool) (verdict catalog given x (sorted d)) ≡ Has BOOL = ap (λ (v : Verdict). wanted (is_of scalar.Bool) v) a.2 in
-        let is : over (wanted (is_of scalar.Bool) (verdict catalog given x (sorted d))) (λ _. over (verdict catalog given y (sorted d)) (λ l. over (verdict catalog given z (sorted d)) (λ r. case_verdict l r))) ≡ Has t =
-        (λ i. over (truth i) (λ _. over (b.2 i) (λ l. over (c.2 i) (λ r. case_verdict l r)))) ∙ case_complete t in (
+        let is : choice_verdict (verdict catalog given x (sorted d)) (verdict catalog given y (sorted d)) (verdict catalog given z (sorted d)) ≡ Has t = (λ i. choice_verdict (a.2 i) (b.2 i) (c.2 i)) ∙ case_complete t in (
           none_of_both _ _ a.0 (none_of_both _ _ b.0 c.0),
           none_of_both _ _ (none_of_both _ _ a.1 (none_fails _ BOOL (start (inner qs)) truth)) (none_of_both _ _ b.1 (none_of_both _ _ c.1 (none_fails _ t (start qs) is))),
           is,
@@ -140,31 +137,29 @@ module _ (catalog : Catalog) (params given : List Param) (same : (name : List �
         let is : over (verdict catalog given x (sorted d)) (λ b. function_verdict called b) ≡ Has t = ap (λ (v : Verdict). over v (λ b. function_verdict called b)) a.2 ∙ function_complete called h.0 t h.2 in
         (a.0, none_of_both _ _ a.1 (none_fails _ t (start qs) is), is)
 
-    exprs_complete : {m : _} → (xs : Row_of-SqlExpr m) (ps qs : List Places) (n : Scope) (d : formed.Scope) (ts : List SqlTy) → Gives catalog n d → HaveTypes catalog params xs d ts → AllSuit xs ps qs n d ts
+    exprs_complete : {m : _} → (xs : Row_of-SqlExpr m) (ps qs : List Places) (n : Scope) (d : formed.Scope) (ts : List SqlTy) → Gives catalog n d → HaveTypes catalog given xs d ts → AllSuit xs ps qs n d ts
     exprs_complete end_of-SqlExpr ps qs n d ts g h = (refl, refl, ap (λ (l : List SqlTy). Some l) (sym h))
     exprs_complete (more_of-SqlExpr first more) ps qs n d ts g h =
         let a : Suits first ps qs n d h.0 = expr_complete first ps qs n d h.0 g h.3 in
         let b : AllSuit more (rest ps) (rest qs) n d h.1 = exprs_complete more (rest ps) (rest qs) n d h.1 g h.4 in
         (none_of_both _ _ a.0 b.0, none_of_both _ _ a.1 b.1, (λ i. with_first (type_in (a.2 i)) (b.2 i)) ∙ ap (λ (l : List SqlTy). Some l) (sym h.2))
 
-    cores_complete : {m : _} → (xs : Row_of-Core m) (ps qs : List Places) (n : Scope) (d : formed.Scope) (cs : List Typed) → Gives catalog n d → HasColumns catalog params xs d cs → SelectSuits xs ps qs n d cs
+    cores_complete : {m : _} → (xs : Row_of-Core m) (ps qs : List Places) (n : Scope) (d : formed.Scope) (cs : List Typed) → Gives catalog n d → HasColumns catalog given xs d cs → SelectSuits xs ps qs n d cs
     cores_complete end_of-Core ps qs n d cs g h = absurd h
     cores_complete (more_of-Core core more) ps qs n d cs g h =
         let a : CoreSuits core ps qs n d cs = core_complete core ps qs n d cs g h.0 in
-        let types : all_types (core_sorts catalog given core (sorted d)) ≡ Some (types_of cs) = ap all_types a.2 ∙ all_typed cs in
-        let b : LikeSuits more (types_of cs) (rest ps) (rest qs) n d = like_complete more (rest ps) (rest qs) n d (types_of cs) g h.1 in
-        (none_of_both _ _ a.0 b.0, none_of_both _ _ a.1 (subst (λ (o : Option (List SqlTy)). types_in_further catalog given more o (rest qs) (sorted d) ≡ []) (sym types) b.1), a.2, a.3)
+        let b : LikeSuits more cs (rest ps) (rest qs) n d = like_complete more (rest ps) (rest qs) n d cs g h.1 in
+        (none_of_both _ _ a.0 b.0, none_of_both _ _ a.1 (subst (λ (l : List Sort). types_in_further catalog given more l (rest qs) (sorted d) ≡ []) (sym a.2) b.1), a.2, a.3)
 
-    like_complete : {m : _} → (xs : Row_of-Core m) (ps qs : List Places) (n : Scope) (d : formed.Scope) (ts : List SqlTy) → Gives catalog n d → AreLike catalog params xs d ts → LikeSuits xs ts ps qs n d
-    like_complete end_of-Core ps qs n d ts g h = (refl, refl)
-    like_complete (more_of-Core core more) ps qs n d ts g h =
+    like_complete : {m : _} → (xs : Row_of-Core m) (ps qs : List Places) (n : Scope) (d : formed.Scope) (fs : List Typed) → Gives catalog n d → AreLike catalog given xs d (types_of fs) → LikeSuits xs fs ps qs n d
+    like_complete end_of-Core ps qs n d fs g h = (refl, refl)
+    like_complete (more_of-Core core more) ps qs n d fs g h =
         let a : CoreSuits core ps qs n d h.0 = core_complete core ps qs n d h.0 g h.1 in
-        let types : all_types (core_sorts catalog given core (sorted d)) ≡ Some ts = ap all_types a.2 ∙ all_typed h.0 ∙ ap (λ (l : List SqlTy). Some l) h.2 in
-        let equal : unless_alike (alike (Some ts) (all_types (core_sorts catalog given core (sorted d)))) (start qs) ≡ [] = ap (λ (o : Option (List SqlTy)). unless_alike (alike (Some ts) o) (start qs)) types ∙ ap (λ (b : Bool). unless_alike b (start qs)) (like_itself (Some ts)) in
-        let b : LikeSuits more ts (rest ps) (rest qs) n d = like_complete more (rest ps) (rest qs) n d ts g h.3 in
+        let equal : unless_alike (alike (sorts_of fs) (core_sorts catalog given core (sorted d))) (start qs) ≡ [] = ap (λ (l : List Sort). unless_alike (alike (sorts_of fs) l) (start qs)) a.2 ∙ ap (λ (b : Bool). unless_alike b (start qs)) (types_like fs h.0 h.2) in
+        let b : LikeSuits more fs (rest ps) (rest qs) n d = like_complete more (rest ps) (rest qs) n d fs g h.3 in
         (none_of_both _ _ a.0 b.0, none_of_both _ _ a.1 (none_of_both _ _ equal b.1))
 
-    core_complete : (x : Core) (ps qs : List Places) (n : Scope) (d : formed.Scope) (cs : List Typed) → Gives catalog n d → CoreHas catalog params x d cs → CoreSuits x ps qs n d cs
+    core_complete : (x : Core) (ps qs : List Places) (n : Scope) (d : formed.Scope) (cs : List Typed) → Gives catalog n d → CoreHas catalog given x d cs → CoreSuits x ps qs n d cs
     core_complete (c.All' s1 columns s2 items condition s3 keys offset limit) ps qs n d cs g h =
         let from : ItemsSuit items [] (at_items columns ps) (at_items columns qs) n n d h.0 = items_complete items [] [] (at_items columns ps) (at_items columns qs) n n d h.0 refl no_aliases g h.1 in
         let a : ColumnsSuit columns [] (inner ps) (inner qs) (inside items n) h.0 cs = columns_complete columns [] (inner ps) (inner qs) (inside items n) h.0 cs from.2 (λ name there. refl) h.4 h.2 in
@@ -204,7 +199,7 @@ module _ (catalog : Catalog) (params given : List Param) (same : (name : List �
           a.3,
         )
 
-    columns_complete : {m : _} → (xs : Row_of-Column m) (before : List Name) (ps qs : List Places) (n : Scope) (d : formed.Scope) (cs : List Typed) → Gives catalog n d → AreNew before (names_of cs) → AreApart (names_of cs) → ColumnsHave catalog params xs d cs → ColumnsSuit xs before ps qs n d cs
+    columns_complete : {m : _} → (xs : Row_of-Column m) (before : List Name) (ps qs : List Places) (n : Scope) (d : formed.Scope) (cs : List Typed) → Gives catalog n d → AreNew before (names_of cs) → AreApart (names_of cs) → ColumnsHave catalog given xs d cs → ColumnsSuit xs before ps qs n d cs
     columns_complete end_of-Column before ps qs n d cs g new apart h = (refl, refl, ap sorts_of (sym h), λ name. ap (λ (l : List Typed). is_there (type_under name l)) (sym h))
     columns_complete (more_of-Column value name more) before ps qs n d cs g new apart h =
         let first : Typed = record { name = name; ty = h.0 } in
@@ -220,7 +215,7 @@ module _ (catalog : Catalog) (params given : List Param) (same : (name : List �
         )
 
     items_complete : {m : _} → (xs : Row_of-FromItem m) (names : List Name) (before : List FromItem) (ps qs : List Places) (outer n : Scope) (d into : formed.Scope) → with_items before outer ≡ n → AreAliases names before → Gives catalog n d
-        → HaveAliases catalog params xs names d into → ItemsSuit xs before ps qs outer n d into
+        → HaveAliases catalog given xs names d into → ItemsSuit xs before ps qs outer n d into
     items_complete end_of-FromItem names before ps qs outer n d into w are g h = (refl, refl, subst (λ (z : formed.Scope). Gives catalog n z) (sym h) g, ap sorted (sym h))
     items_complete (more_of-FromItem first more) names before ps qs outer n d into w are g h =
         let a : ItemSuits first ps qs n d h.0 = item_complete first names ps qs n d h.0 g h.1 in
@@ -235,7 +230,7 @@ module _ (catalog : Catalog) (params given : List Param) (same : (name : List �
           ap (λ (z : Sorts). within catalog given more z) scope ∙ b.3,
         )
 
-    item_complete : (x : FromItem) (names : List Name) (ps qs : List Places) (n : Scope) (d : formed.Scope) (cs : List Typed) → Gives catalog n d → ItemHas catalog params x names d cs → ItemSuits x ps qs n d cs
+    item_complete : (x : FromItem) (names : List Name) (ps qs : List Places) (n : Scope) (d : formed.Scope) (cs : List Typed) → Gives catalog n d → ItemHas catalog given x names d cs → ItemSuits x ps qs n d cs
     item_complete (f.Table name alias) names ps qs n d cs g h =
         (ap (λ (o : Option (List Typed)). unless (is_there o) (start (inner ps))) h.1, refl, ap table_sorts h.1, λ column. ap (λ (o : Option (List Typed)). is_listed column o) h.1)
     item_complete (f.Lateral' _ cores alias) names ps qs n d cs g h =
@@ -252,14 +247,14 @@ module _ (catalog : Catalog) (params given : List Param) (same : (name : List �
           λ name. element_gives name h.0 ∙ ap (λ (l : List Typed). is_there (type_under name l)) (sym h.2),
         )
 
-    keys_complete : {m : _} → (xs : Row_of-Key m) (ps qs : List Places) (n : Scope) (d : formed.Scope) → Gives catalog n d → AreKeys catalog params xs d → KeysSuit xs ps qs n d
+    keys_complete : {m : _} → (xs : Row_of-Key m) (ps qs : List Places) (n : Scope) (d : formed.Scope) → Gives catalog n d → AreKeys catalog given xs d → KeysSuit xs ps qs n d
     keys_complete end_of-Key ps qs n d g h = (refl, refl)
     keys_complete (more_of-Key first more) ps qs n d g h =
         let a : KeySuits first ps qs n d = key_complete first ps qs n d g h.0 in
         let b : KeysSuit more (rest ps) (rest qs) n d = keys_complete more (rest ps) (rest qs) n d g h.1 in
         (none_of_both _ _ a.0 b.0, none_of_both _ _ a.1 b.1)
 
-    key_complete : (x : Key) (ps qs : List Places) (n : Scope) (d : formed.Scope) → Gives catalog n d → IsKey catalog params x d → KeySuits x ps qs n d
+    key_complete : (x : Key) (ps qs : List Places) (n : Scope) (d : formed.Scope) → Gives catalog n d → IsKey catalog given x d → KeySuits x ps qs n d
     key_complete (k.Ascending value nulls) ps qs n d g h =
         let a : Suits value ps qs n d h.0 = expr_complete value ps qs n d h.0 g h.2 in
         (a.0, none_of_both _ _ a.1 (ap (λ (v : Verdict). failing (wanted is_scalar v) (start qs)) a.2 ∙ scalar_suits h.0 (start qs) h.1))
@@ -267,13 +262,13 @@ module _ (catalog : Catalog) (params given : List Param) (same : (name : List �
         let a : Suits value ps qs n d h.0 = expr_complete value ps qs n d h.0 g h.2 in
         (a.0, none_of_both _ _ a.1 (ap (λ (v : Verdict). failing (wanted is_scalar v) (start qs)) a.2 ∙ scalar_suits h.0 (start qs) h.1))
 
-    condition_complete : (x : Held-Body-condition) (ps qs : List Places) (n : Scope) (d : formed.Scope) → Gives catalog n d → IsCondition catalog params x d → HeldSuits x (is_of scalar.Bool) ps qs n d
+    condition_complete : (x : Held-Body-condition) (ps qs : List Places) (n : Scope) (d : formed.Scope) → Gives catalog n d → IsCondition catalog given x d → HeldSuits x (is_of scalar.Bool) ps qs n d
     condition_complete None' ps qs n d g h = (refl, refl)
     condition_complete (Some' _ (more_of-SqlExpr x end_of-SqlExpr)) ps qs n d g h =
         let a : Suits x ps qs n d BOOL = expr_complete x ps qs n d BOOL g h in
         (a.0, none_of_both _ _ a.1 (ap (λ (v : Verdict). failing (wanted (is_of scalar.Bool) v) (start qs)) a.2))
 
-    bound_complete : (x : Held-Body-condition) (ps qs : List Places) (n : Scope) (d : formed.Scope) → Gives catalog n d → IsBound catalog params x d → HeldSuits x (is_of scalar.Int64) ps qs n d
+    bound_complete : (x : Held-Body-condition) (ps qs : List Places) (n : Scope) (d : formed.Scope) → Gives catalog n d → IsBound catalog given x d → HeldSuits x (is_of scalar.Int64) ps qs n d
     bound_complete None' ps qs n d g h = (refl, refl)
     bound_complete (Some' _ (more_of-SqlExpr x end_of-SqlExpr)) ps qs n d g h =
         let a : Suits x ps qs n d INT = expr_complete x ps qs n d INT g h in
@@ -281,25 +276,23 @@ module _ (catalog : Catalog) (params given : List Param) (same : (name : List �
 
   -- ---- the cores of a statement
 
-  all_complete : (xs : List Core) (ts : List SqlTy) (ps qs : List Places) → AreAllLike catalog params xs [] ts → (names_in_list catalog xs ps [] ≡ []) × (types_in_further_list catalog given xs (Some ts) qs [] ≡ [])
-  all_complete [] ts ps qs h = (refl, refl)
-  all_complete (core ∷ more) ts ps qs h =
+  all_complete : (xs : List Core) (fs : List Typed) (ps qs : List Places) → AreAllLike catalog given xs [] (types_of fs) → (names_in_list catalog xs ps [] ≡ []) × (types_in_further_list catalog given xs (sorts_of fs) qs [] ≡ [])
+  all_complete [] fs ps qs h = (refl, refl)
+  all_complete (core ∷ more) fs ps qs h =
       let a : CoreSuits core ps qs [] [] h.0 = core_complete core ps qs [] [] h.0 tt h.1 in
-      let types : all_types (core_sorts catalog given core []) ≡ Some ts = ap all_types a.2 ∙ all_typed h.0 ∙ ap (λ (l : List SqlTy). Some l) h.2 in
-      let equal : unless_alike (alike (Some ts) (all_types (core_sorts catalog given core []))) (start qs) ≡ [] = ap (λ (o : Option (List SqlTy)). unless_alike (alike (Some ts) o) (start qs)) types ∙ ap (λ (b : Bool). unless_alike b (start qs)) (like_itself (Some ts)) in
-      let b : (names_in_list catalog more (rest ps) [] ≡ []) × (types_in_further_list catalog given more (Some ts) (rest qs) [] ≡ []) = all_complete more ts (rest ps) (rest qs) h.3 in
+      let equal : unless_alike (alike (sorts_of fs) (core_sorts catalog given core [])) (start qs) ≡ [] = ap (λ (l : List Sort). unless_alike (alike (sorts_of fs) l) (start qs)) a.2 ∙ ap (λ (b : Bool). unless_alike b (start qs)) (types_like fs h.0 h.2) in
+      let b : (names_in_list catalog more (rest ps) [] ≡ []) × (types_in_further_list catalog given more (sorts_of fs) (rest qs) [] ≡ []) = all_complete more fs (rest ps) (rest qs) h.3 in
       (none_of_both _ _ a.0 b.0, none_of_both _ _ a.1 (none_of_both _ _ equal b.1))
 
-  select_complete : (xs : List Core) (cs : List Typed) (ps qs : List Places) → SelectHas catalog params xs [] cs → (names_in_list catalog xs ps [] ≡ []) × (types_in_list catalog given xs qs [] ≡ [])
+  select_complete : (xs : List Core) (cs : List Typed) (ps qs : List Places) → SelectHas catalog given xs [] cs → (names_in_list catalog xs ps [] ≡ []) × (types_in_list catalog given xs qs [] ≡ [])
   select_complete [] cs ps qs h = absurd h
   select_complete (core ∷ more) cs ps qs h =
       let a : CoreSuits core ps qs [] [] cs = core_complete core ps qs [] [] cs tt h.0 in
-      let types : all_types (core_sorts catalog given core []) ≡ Some (types_of cs) = ap all_types a.2 ∙ all_typed cs in
-      let b : (names_in_list catalog more (rest ps) [] ≡ []) × (types_in_further_list catalog given more (Some (types_of cs)) (rest qs) [] ≡ []) = all_complete more (types_of cs) (rest ps) (rest qs) h.1 in
-      (none_of_both _ _ a.0 b.0, none_of_both _ _ a.1 (subst (λ (o : Option (List SqlTy)). types_in_further_list catalog given more o (rest qs) [] ≡ []) (sym types) b.1))
+      let b : (names_in_list catalog more (rest ps) [] ≡ []) × (types_in_further_list catalog given more (sorts_of cs) (rest qs) [] ≡ []) = all_complete more cs (rest ps) (rest qs) h.1 in
+      (none_of_both _ _ a.0 b.0, none_of_both _ _ a.1 (subst (λ (l : List Sort). types_in_further_list catalog given more l (rest qs) [] ≡ []) (sym a.2) b.1))
 
 pub complete : (catalog : Catalog) (s : Stmt) (place : Places) → IsWellFormed catalog s → HasNoFault catalog s place
 complete catalog s place h =
-    let none : (names_in_list catalog s.select.cores (parts_of place) [] ≡ []) × (types_in_list catalog (params_of s) s.select.cores (parts_of place) [] ≡ []) =
-    select_complete catalog (args_of s) (params_of s) (those_that_occur.occur s) s.select.cores h.columns (parts_of place) (parts_of place) h.typed in
+    let none : (names_in_list catalog s.select.cores (parts_of place) [] ≡ []) × (types_in_list catalog (args_of s) s.select.cores (parts_of place) [] ≡ []) =
+    select_complete catalog (args_of s) s.select.cores h.columns (parts_of place) (parts_of place) h.typed in
     record { names = none.0; types = none.1 }

@@ -1,8 +1,8 @@
 -- The bytes of each form, at the code's constructors.
-use Rattle.std.proofs.Common.{◌≡◌, ◌∙◌, ℕ, suc, ℤ, Bool, List, [], ◌∷◌, ◌++◌, drop, length, Option, Some, None, Result, OnOk, append_assoc, subst, refl, ap, sym}
+use Rattle.std.proofs.Common.{◌≡◌, ◌∙◌, ℕ, ℤ, Bool, List, [], ◌∷◌, ◌++◌, drop, length, Option, Some, None, Result, OnOk, append_assoc, subst, refl, ap, sym}
 use Rattle.ev_value.proofs.Items.{append_nil}
 use Rattle.ev_list.specs.declared.order.Absent.{Absent}
-use Rattle.ev_list.specs.declared.param.Param.{Param}
+use Rattle.sql_ast.specs.declared.catalog.Typed.{Typed}
 use Rattle.ev_value.specs.declared.value.ScalarTy.TheVariants as scalar
 use Rattle.sql_ast.specs.declared.catalog.Catalog.{Catalog}
 use Rattle.sql_ast.specs.declared.expression.Binary.{Binary}
@@ -26,9 +26,10 @@ use Rattle.sql_ast.specs.WellFormed.{Name}
 use Rattle.sql_grammar.specs.declared.grown.Places.{Places}
 use Rattle.sql_check.specs.SortFrames.{with_known}
 use Rattle.sql_check.specs.declared.sort.Known.{Known}
+use Rattle.sql_check.specs.declared.sort.Sort.{Sort}
 use Rattle.sql_check.specs.declared.judge.Place.TheVariants as place
-use Rattle.sql_check.specs.TypeLists.{of_place, truth, number, takes, known_of, within_items, sorts_of_cores, types_in_exprs, types_in_column_list, types_in_item_list, types_in_key_list, types_in_place, types_in_held, types_in_rows, types_in_parts, types_in_case}
-use Rattle.sql_check.specs.Types.{Sorts, failing, wanted, is_of, is_scalar, is_array, all_types, alike, unless_alike, core_sorts, within, verdict, types_in, types_in_all, types_in_cores, types_in_further, types_in_core, types_in_columns, types_in_items, types_in_item, types_in_keys, types_in_key, types_in_option, types_in_further_list, types_in_list}
+use Rattle.sql_check.specs.TypeLists.{of_place, truth, number, known_of, within_items, sorts_of_cores, types_in_exprs, types_in_column_list, types_in_item_list, types_in_key_list, types_in_place, types_in_held, types_in_rows, types_in_parts, types_in_case}
+use Rattle.sql_check.specs.Types.{Sorts, failing, is_of, alike, unless_alike, core_sorts, verdict, types_in, types_in_all, types_in_cores, types_in_further, types_in_core, types_in_columns, types_in_items, types_in_item, types_in_keys, types_in_key, types_in_option, types_in_further_list, types_in_list}
 use Rattle.sql_check.specs.Walk.{start, inner, rest}
 use Rattle.sql_check.proofs.PartPlaces.{items_at, condition_at, keys_at, offset_at, limit_at}
 use Rattle.sql_check.proofs.ScopeForms.{known_next}
@@ -38,22 +39,22 @@ use denote.Hole.Carrier as carrier
 
 -- ---- lists and optional forms
 
-module _ (catalog : Catalog) (params : List Param) where
+module _ (catalog : Catalog) (params : List Typed) where
   exprs_hidden : (es : List SqlExpr) (ps : List Places) (d : Sorts) → types_in_all catalog params (block.hidden-the_row-SqlExpr-1 es) ps d ≡ types_in_exprs catalog params es ps d
   unfolding types_in block.hidden-the_row-SqlExpr-1 carrier.hidden
   exprs_hidden [] ps d = refl
   exprs_hidden (e ∷ es) ps d = ap (λ l. types_in catalog params e ps d ++ l) (exprs_hidden es (rest ps) d)
 
-  further_hidden : (cs : List Core) (first : Option (List SqlTy)) (ps : List Places) (d : Sorts) → types_in_further catalog params (block.hidden-the_row-Core-0 cs) first ps d ≡ types_in_further_list catalog params cs first ps d
+  further_hidden : (cs : List Core) (first : List Sort) (ps : List Places) (d : Sorts) → types_in_further catalog params (block.hidden-the_row-Core-0 cs) first ps d ≡ types_in_further_list catalog params cs first ps d
   unfolding types_in block.hidden-the_row-Core-0 carrier.hidden
   further_hidden [] first ps d = refl
   further_hidden (c ∷ cs) first ps d =
-      ap (λ l. types_in_core catalog params c ps d ++ (unless_alike (alike first (all_types (core_sorts catalog params c d))) (start ps) ++ l)) (further_hidden cs first (rest ps) d)
+      ap (λ l. types_in_core catalog params c ps d ++ (unless_alike (alike first (core_sorts catalog params c d)) (start ps) ++ l)) (further_hidden cs first (rest ps) d)
 
   cores_hidden : (cs : List Core) (ps : List Places) (d : Sorts) → types_in_cores catalog params (block.hidden-the_row-Core-0 cs) ps d ≡ types_in_list catalog params cs ps d
   unfolding types_in block.hidden-the_row-Core-0 carrier.hidden
   cores_hidden [] ps d = refl
-  cores_hidden (c ∷ cs) ps d = ap (λ l. types_in_core catalog params c ps d ++ l) (further_hidden cs (all_types (core_sorts catalog params c d)) (rest ps) d)
+  cores_hidden (c ∷ cs) ps d = ap (λ l. types_in_core catalog params c ps d ++ l) (further_hidden cs (core_sorts catalog params c d) (rest ps) d)
 
   columns_hidden : (cs : List Column) (ps : List Places) (d : Sorts) → types_in_columns catalog params (block.hidden-the_row-Column-3 cs) ps d ≡ types_in_column_list catalog params cs ps d
   unfolding types_in block.hidden-the_row-Column-3 carrier.hidden
@@ -82,15 +83,15 @@ module _ (catalog : Catalog) (params : List Param) where
 
 -- ---- the cores of a select, of which the first is like itself
 
-module _ (catalog : Catalog) (params : List Param) where
-  pub list_is : (cs : List Core) (ps : List Places) (d : Sorts) → types_in_list catalog params cs ps d ≡ types_in_further_list catalog params cs (all_types (sorts_of_cores catalog params cs d)) ps d
+module _ (catalog : Catalog) (params : List Typed) where
+  pub list_is : (cs : List Core) (ps : List Places) (d : Sorts) → types_in_list catalog params cs ps d ≡ types_in_further_list catalog params cs (sorts_of_cores catalog params cs d) ps d
   list_is [] ps d = refl
   list_is (c ∷ cs) ps d =
-      ap (λ b. types_in_core catalog params c ps d ++ (unless_alike b (start ps) ++ types_in_further_list catalog params cs (all_types (core_sorts catalog params c d)) (rest ps) d)) (sym (like_itself (all_types (core_sorts catalog params c d))))
+      ap (λ b. types_in_core catalog params c ps d ++ (unless_alike b (start ps) ++ types_in_further_list catalog params cs (core_sorts catalog params c d) (rest ps) d)) (sym (like_itself (core_sorts catalog params c d)))
 
 -- ---- expressions
 
-module _ (catalog : Catalog) (params : List Param) (ps : List Places) (d : Sorts) where
+module _ (catalog : Catalog) (params : List Typed) (ps : List Places) (d : Sorts) where
   pub of_int : (z : ℤ) → types_in catalog params (expr.Int z) ps d ≡ []
   unfolding types_in
   of_int z = refl
@@ -200,7 +201,7 @@ all_added r all one two new is cs rs xs e f h x =
     subst (λ l. OnOk r (new ≡ l)) (ap (λ l. l ++ rs) (f ∙ ap (λ l. l ++ cs) e) ∙ append_assoc (all ++ is) cs rs ∙ append_assoc all is (cs ++ rs) ∙ sym (ap (λ l. all ++ l) x)) h
 
 -- the parts of a core: its items, then its columns and what stands behind them, in the scope of the items
-pub core_faults : {T E : Type 0} (catalog : Catalog) (params : List Param) (d : Sorts) (ps : List Places) (r : Result T E) (all one two new : List ℕ)
+pub core_faults : {T E : Type 0} (catalog : Catalog) (params : List Typed) (d : Sorts) (ps : List Places) (r : Result T E) (all one two new : List ℕ)
     (core : Core) (columns cols : List Column) (body : Body) (items : List FromItem) (known ks ls : List Known) (inside behind after : List Places)
     → one ≡ all ++ types_in_item_list catalog params items behind d
     → with_known known d ≡ within_items catalog params items d
@@ -218,7 +219,7 @@ core_faults catalog params d ps r all one two new core columns cols body items k
     (x ∙ sym (λ i. types_in_item_list catalog params (it i) (b i) d ++ (types_in_column_list catalog params (co i) (n i) (first i) ++ types_in_rows catalog params body (a i) (second i) d)))
 
 -- an item behind those before it
-pub item_more : (catalog : Catalog) (params : List Param) (item : FromItem) (known ks ls new : List Known) (entry : Known) (d : Sorts) (items more : List FromItem) (left next : List Places) (found one all : List ℕ)
+pub item_more : (catalog : Catalog) (params : List Typed) (item : FromItem) (known ks ls new : List Known) (entry : Known) (d : Sorts) (items more : List FromItem) (left next : List Places) (found one all : List ℕ)
     → items ≡ item ∷ more → found ++ types_in_item_list catalog params items left (with_known known d) ≡ all
     → one ≡ found ++ types_in_item catalog params item left (with_known ls d)
     → ls ≡ known → ks ≡ known → entry ≡ known_of catalog params item (with_known ks d) → new ≡ known ++ entry ∷ [] → next ≡ rest left

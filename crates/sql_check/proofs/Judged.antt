@@ -109,7 +109,7 @@ part_complete ts n t h = part_row ts (pos (suc n)) ∙ ap has_some h
 pub case_complete : (t : SqlTy) → case_verdict t t ≡ Has t
 case_complete t = ap (λ (x : Bool). has_if x t) (same_itself t)
 
-pub arg_complete : (s : ScalarTy) → arg_verdict (ty.Scalar s) (Some s) ≡ Has (ty.Scalar s)
+pub arg_complete : (s : ScalarTy) → arg_verdict (ty.Scalar s) (Some (ty.Scalar s)) ≡ Has (ty.Scalar s)
 arg_complete s = ap (λ (x : Bool). has_if x (ty.Scalar s)) (scalar_itself s)
 
 pub scalar_suits : (t : SqlTy) (byte : ℕ) → IsScalar t → failing (wanted is_scalar (Has t)) byte ≡ []

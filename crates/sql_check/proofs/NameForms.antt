@@ -1,5 +1,5 @@
 -- The unknown and repeated names of each form, at the code's constructors.
-use Rattle.std.proofs.Common.{◌≡◌, ℕ, suc, ℤ, Bool, true, false, List, [], ◌∷◌, ◌++◌, codes, map, length, drop, Option, Some, None, if◌then◌else◌, not, refl, ap, sym, ◌∙◌, append_assoc, subst, Result, OnOk}
+use Rattle.std.proofs.Common.{◌≡◌, ℕ, ℤ, Bool, true, false, List, [], ◌∷◌, ◌++◌, codes, length, drop, Option, Some, None, if◌then◌else◌, not, refl, ap, sym, ◌∙◌, append_assoc, subst, Result, OnOk}
 use Rattle.std.specs.Str.{bytes_eq}
 use Rattle.ev_value.proofs.Items.{append_nil}
 use Rattle.sql_ast.specs.declared.catalog.Catalog.{Catalog}

@@ -9,7 +9,7 @@ use Rattle.sql_ast.specs.declared.select.Key.{Key}
 use Rattle.sql_grammar.specs.declared.grown.Places.{Places}
 use Rattle.sql_check.specs.Names.{column_count, item_count, key_count, behind}
 use Rattle.sql_check.specs.NameLists.{beyond_option}
-use Rattle.sql_check.specs.Walk.{inner, rest}
+use Rattle.sql_check.specs.Walk.{inner}
 use denote.Hole.Carrier as carrier
 
 count_columns : (cs : List Column) → column_count (block.hidden-the_row-Column-3 cs) ≡ length cs

@@ -1,5 +1,5 @@
 -- Places as the code's constructor names them.
-use Rattle.std.proofs.Common.{◌≡◌, ℕ, List, [], ◌∷◌, refl, ap}
+use Rattle.std.proofs.Common.{◌≡◌, ℕ, List, ◌∷◌, refl}
 use borrow.Enum.Total as total
 use Rattle.sql_grammar.specs.contracts.grown.Places as contract
 use Rattle.sql_grammar.specs.declared.grown.Places.{Places, At', Row_of-Places, out-Places}
@@ -8,7 +8,7 @@ use Rattle.sql_grammar.specs.declared.grown.Places.TheVariants as places
 use Rattle.sql_check.specs.Walk.{listed, start, parts_of}
 use denote.Hole.Carrier.{shown-items, list-listed}
 use denote.Hole.Carrier as carrier
-use mathlib.Core.Former.{Count, list, list_count, this}
+use mathlib.Core.Former.{list, list_count, this}
 
 pub start_is : (byte : ℕ) (ps more : List Places) → start (places.At byte ps ∷ more) ≡ byte
 start_is byte ps more = refl

@@ -1,10 +1,9 @@
 -- The scope of columns, at the code's constructors.
 use Rattle.std.proofs.Common.{◌≡◌, Bool, true, false, List, [], ◌∷◌, ◌++◌, Option, Some, None, if◌then◌else◌, refl, ap, sym, ◌∙◌}
 use Rattle.std.specs.Str.{bytes_eq}
-use Rattle.ev_list.specs.declared.param.Param.{Param}
+use Rattle.sql_ast.specs.declared.catalog.Typed.{Typed}
 use Rattle.sql_ast.specs.declared.catalog.Catalog.{Catalog}
 use Rattle.sql_ast.specs.declared.select.FromItem.{FromItem}
-use Rattle.sql_ast.specs.declared.ty.SqlTy.{SqlTy}
 use Rattle.sql_ast.specs.WellFormed.{Name}
 use Rattle.sql_check.specs.declared.sort.Known.{Known}
 use Rattle.sql_check.specs.declared.sort.SortFrames.{SortFrames}
@@ -29,7 +28,7 @@ known_push [] k d = refl
 known_push (first ∷ more) k d = known_push more k (first ∷ d)
 
 -- what an item gives behind those before it
-module _ (catalog : Catalog) (params : List Param) (item : FromItem) (known ks new : List Known) (entry : Known) (d : Sorts) where
+module _ (catalog : Catalog) (params : List Typed) (item : FromItem) (known ks new : List Known) (entry : Known) (d : Sorts) where
   pub known_next : ks ≡ known → entry ≡ known_of catalog params item (with_known ks d) → new ≡ known ++ entry ∷ []
       → with_known new d ≡ known_of catalog params item (with_known known d) ∷ with_known known d
   known_next k e n =

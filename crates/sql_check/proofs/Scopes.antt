@@ -14,7 +14,7 @@ use Rattle.sql_ast.specs.WellFormed.{Name, AreApart, alias_of, columns_under, el
 use Rattle.sql_ast.specs.WellFormed as formed
 use Rattle.sql_check.specs.declared.sort.Known.{Known}
 use Rattle.sql_check.specs.Names.{Scope, with_items, has_alias, has_column, is_among, is_column, is_listed, is_there}
-use Rattle.sql_check.specs.Types.{Sorts, all_types, column_type, sort_under, sorts_of}
+use Rattle.sql_check.specs.Types.{Sorts, column_type, sort_under, sorts_of}
 
 -- ---- names in lists
 
@@ -204,11 +204,6 @@ there_sound (Some a) h = (a, refl)
 pub listed_sound : (name : Name) (o : Option (List Typed)) → is_listed name o ≡ true → (cs : List Typed) × (t : SqlTy) × (o ≡ Some cs) × (type_under name cs ≡ Some t)
 listed_sound name None h = absurd (cc h)
 listed_sound name (Some cs) h = let found : (t : SqlTy) × (type_under name cs ≡ Some t) = there_sound (type_under name cs) h in (cs, found.0, refl, found.1)
-
--- the types of columns
-pub all_typed : (cs : List Typed) → all_types (sorts_of cs) ≡ Some (types_of cs)
-all_typed [] = refl
-all_typed (x ∷ more) = rw (all_typed more) refl
 
 -- ---- the names that columns give
 

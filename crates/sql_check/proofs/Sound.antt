@@ -2,7 +2,6 @@
 use Rattle.std.proofs.Common.{◌≡◌, ◌⊎◌, inl, inr, ℕ, true, false, List, [], ◌∷◌, ◌++◌, Option, Some, refl, ap, sym, ◌∙◌, subst}
 use Rattle.ev_value.specs.declared.value.ScalarTy.{ScalarTy}
 use Rattle.ev_value.specs.declared.value.ScalarTy.TheVariants as scalar
-use Rattle.ev_list.specs.declared.param.Param.{Param}
 use Rattle.sql_ast.specs.declared.catalog.Catalog.{Catalog}
 use Rattle.sql_ast.specs.declared.catalog.TableShape.{TableShape}
 use Rattle.sql_ast.specs.declared.catalog.Typed.{Typed}
@@ -17,11 +16,10 @@ use Rattle.sql_ast.specs.declared.select.Key.{Key}
 use Rattle.sql_ast.specs.declared.select.Stmt.{Stmt}
 use Rattle.sql_ast.specs.declared.ty.SqlTy.{SqlTy}
 use Rattle.sql_ast.specs.declared.ty.SqlTy.TheVariants as ty
-use Rattle.sql_ast.specs.Params.{args_of, params_of, type_of_param}
+use Rattle.sql_ast.specs.Params.{args_of}
 use Rattle.sql_ast.specs.Types.{INT, TEXT, BOOL, UUID, UnaryType, BinaryType, FunctionType}
 use Rattle.sql_ast.specs.WellFormed.{Name, IsNotEmpty, IsWellFormed, AreApart, HasType, HaveTypes, HasColumns, AreLike, CoreHas, HaveAliases, ItemHas, ColumnsHave, AreKeys, IsKey, IsCondition, IsBound, AreAllLike, SelectHas, alias_of, columns_under, element_column, names_of, type_under, types_of}
 use Rattle.sql_ast.specs.WellFormed as formed
-use Rattle.sql_ast.proofs.ParamsInOrder.{those_that_occur}
 use Rattle.sql_grammar.specs.declared.grown.Places.{Places}
 use Rattle.sql_check.specs.declared.sort.Sort.{Sort}
 use Rattle.sql_check.specs.declared.verdict.Verdict.{Verdict}
@@ -29,35 +27,30 @@ use Rattle.sql_check.specs.declared.verdict.Verdict.TheVariants.{Has}
 use Rattle.sql_check.specs.Laws.{HasNoFault}
 use Rattle.sql_check.specs.Names.{Scope, at_items, at_condition, at_keys, at_offset, at_limit, with_items, inside, gives_column, core_gives, select_gives, has_alias, has_column, is_among, is_listed, names_in, names_in_all, names_in_cores, names_in_core, names_in_columns, names_in_items, names_in_item, names_in_keys, names_in_key, names_in_option, names_in_list}
 use Rattle.sql_check.specs.Spelled.{MayBegin, IsSpelled, AreSpelled, CoresAreSpelled, FurtherAreSpelled, CoreIsSpelled, ColumnsAreSpelled, FurtherColumnsAreSpelled, FromIsSpelled, ItemsAreSpelled, ItemIsSpelled, KeysAreSpelled, KeyIsSpelled, HeldIsSpelled, FurtherCoresAreSpelled, SelectIsSpelled, StatementIsSpelled}
-use Rattle.sql_check.specs.Types.{Sorts, known, over, failing, wanted, is_of, is_scalar, is_array, unary_verdict, binary_verdict, function_verdict, cast_verdict, part_verdict, case_verdict, arg_verdict, array_verdict, row_verdict, alike, all_types, type_in, with_first, sorts_of, table_sorts, element_sort, element_in, verdict, verdicts, select_sorts, core_sorts, column_sorts, within, item_sorts, types_in, types_in_all, types_in_cores, types_in_further, types_in_core, types_in_columns, types_in_items, types_in_item, types_in_keys, types_in_key, types_in_option, types_in_further_list, types_in_list}
+use Rattle.sql_check.specs.Types.{Sorts, known, over, failing, is_of, is_scalar, is_array, unary_verdict, binary_verdict, function_verdict, cast_verdict, part_verdict, case_verdict, arg_verdict, array_verdict, row_verdict, alike, choice_verdict, type_in, with_first, sorts_of, table_sorts, element_sort, element_in, verdict, verdicts, select_sorts, core_sorts, column_sorts, within, item_sorts, types_in, types_in_all, types_in_cores, types_in_further, types_in_core, types_in_columns, types_in_items, types_in_item, types_in_keys, types_in_key, types_in_option, types_in_further_list, types_in_list}
 use Rattle.sql_check.specs.Walk.{start, inner, rest, parts_of}
 use Rattle.sql_check.proofs.Emptiness.{Six, six, no_first, no_more, holds, holds_not, are_alike}
-use Rattle.sql_check.proofs.Scopes.{AreNew, AreAliases, IsGivenBy, Gives, sorted, type_listed, none_new, no_aliases, new_first, apart_first, one_alias, new_alias, with_more, column_is, type_is, column_gives, element_gives, there_sound, listed_sound, all_typed}
+use Rattle.sql_check.proofs.Scopes.{AreNew, AreAliases, IsGivenBy, Gives, sorted, type_listed, none_new, no_aliases, new_first, apart_first, one_alias, new_alias, with_more, column_is, type_is, column_gives, element_gives, there_sound, listed_sound}
 use Rattle.sql_check.proofs.TyForms.{element_array}
-use Rattle.sql_check.proofs.Verdicts.{IsJudged, IsPart, IsCast, placed, equal_lists, scalar_it_is, scalar_sound, array_sound, unary_sound, binary_sound, function_sound, cast_sound, part_sound, case_sound, arg_sound}
+use Rattle.sql_check.proofs.Verdicts.{IsJudged, IsPart, IsCast, placed, like_types, scalar_it_is, scalar_sound, array_sound, unary_sound, binary_sound, function_sound, cast_sound, part_sound, case_sound, arg_sound}
 
 -- ---- what is said of a form, by what is said of its parts
 
 -- the array of a select with one column
-one_of_columns : (cs : List Typed) (byte : ℕ) → failing (array_verdict (Some (types_of cs))) byte ≡ [] → IsJudged (array_verdict (Some (types_of cs))) (λ t. (x : Typed) × (cs ≡ x ∷ []) × (t ≡ ty.Array x.ty))
+one_of_columns : (cs : List Typed) (byte : ℕ) → failing (array_verdict (sorts_of cs)) byte ≡ [] → IsJudged (array_verdict (sorts_of cs)) (λ t. (x : Typed) × (cs ≡ x ∷ []) × (t ≡ ty.Array x.ty))
 one_of_columns [] byte h = absurd (cc h)
 one_of_columns (x ∷ []) byte h = (ty.Array x.ty, refl, (x, refl, refl))
 one_of_columns (x ∷ y ∷ more) byte h = absurd (cc h)
 
-abbrev IsArrayOf : List Typed → Option (List SqlTy) → ℕ → Type 0
-IsArrayOf cs o byte = failing (array_verdict o) byte ≡ [] → IsJudged (array_verdict o) (λ t. (x : Typed) × (cs ≡ x ∷ []) × (t ≡ ty.Array x.ty))
+abbrev IsArrayOf : List Typed → List Sort → ℕ → Type 0
+IsArrayOf cs sorts byte = failing (array_verdict sorts) byte ≡ [] → IsJudged (array_verdict sorts) (λ t. (x : Typed) × (cs ≡ x ∷ []) × (t ≡ ty.Array x.ty))
 
-one_column : (sorts : List Sort) (cs : List Typed) (byte : ℕ) → sorts ≡ sorts_of cs → IsArrayOf cs (all_types sorts) byte
-one_column sorts cs byte e =
-    let types : all_types sorts ≡ Some (types_of cs) = ap all_types e ∙ all_typed cs in
-    subst (λ (o : Option (List SqlTy)). IsArrayOf cs o byte) (sym types) (one_of_columns cs byte)
+one_column : (sorts : List Sort) (cs : List Typed) (byte : ℕ) → sorts ≡ sorts_of cs → IsArrayOf cs sorts byte
+one_column sorts cs byte e = subst (λ (l : List Sort). IsArrayOf cs l byte) (sym e) (one_of_columns cs byte)
 
 -- a choice by a truth
-abbrev of_choice : Verdict → Verdict → Verdict → Verdict
-of_choice v w u = over (wanted (is_of scalar.Bool) v) (λ _. over w (λ x. over u (λ y. case_verdict x y)))
-
 chosen : (v w u : Verdict) (a b c : SqlTy) → v ≡ Has a → w ≡ Has b → u ≡ Has c → is_of scalar.Bool a ≡ true
-    → of_choice v w u ≡ case_verdict b c
+    → choice_verdict v w u ≡ case_verdict b c
 chosen v w u a b c e f g h = rw (e, f, g, h) refl
 
 -- ---- columns and items
@@ -77,10 +70,10 @@ unfolding IsSpelled
 further_items end_of-FromItem s = (tt, tt)
 further_items (more_of-FromItem first more) s = ((s.1, s.2, s.3), s.0)
 
-some_columns : (catalog : Catalog) (params : List Param) {m : _} (columns : Row_of-Column m) (d : formed.Scope) (cs : List Typed) → ColumnsAreSpelled columns → ColumnsHave catalog params columns d cs → IsNotEmpty cs
+some_columns : (catalog : Catalog) (given : List Typed) {m : _} (columns : Row_of-Column m) (d : formed.Scope) (cs : List Typed) → ColumnsAreSpelled columns → ColumnsHave catalog given columns d cs → IsNotEmpty cs
 unfolding IsSpelled HasType
-some_columns catalog params end_of-Column d cs s h = absurd s
-some_columns catalog params (more_of-Column value name more) d cs s h = subst (λ (xs : List Typed). IsNotEmpty xs) (sym h.2) tt
+some_columns catalog given end_of-Column d cs s h = absurd s
+some_columns catalog given (more_of-Column value name more) d cs s h = subst (λ (xs : List Typed). IsNotEmpty xs) (sym h.2) tt
 
 join_is_further : (names : List Name) → IsNotEmpty names ⊎ ⊥ → IsNotEmpty names
 join_is_further names (inl some) = some
@@ -88,31 +81,30 @@ join_is_further names (inr none) = absurd none
 
 -- ---- the walk of the tree
 
--- the types of the parameters are asked of a list, and of one that gives the same answers
-module _ (catalog : Catalog) (params given : List Param) (same : (name : List ℕ) → type_of_param name given ≡ type_of_param name params) where
+module _ (catalog : Catalog) (given : List Typed) where
   -- it has the type that is said of it
   abbrev IsTyped : SqlExpr → formed.Scope → Type 0
-  IsTyped x d = IsJudged (verdict catalog given x (sorted d)) (λ t. HasType catalog params x d t)
+  IsTyped x d = IsJudged (verdict catalog given x (sorted d)) (λ t. HasType catalog given x d t)
 
   abbrev AreTyped : {m : _} → Row_of-SqlExpr m → formed.Scope → Type 0
-  AreTyped xs d = (ts : List SqlTy) × HaveTypes catalog params xs d ts × (verdicts catalog given xs (sorted d) ≡ Some ts)
+  AreTyped xs d = (ts : List SqlTy) × HaveTypes catalog given xs d ts × (verdicts catalog given xs (sorted d) ≡ Some ts)
 
   -- it has the columns that are said of it
   abbrev SelectGives : {m : _} → Row_of-Core m → formed.Scope → Type 0
-  SelectGives xs d = (cs : List Typed) × HasColumns catalog params xs d cs × (select_sorts catalog given xs (sorted d) ≡ sorts_of cs) × IsGivenBy (λ name. select_gives name xs) cs
+  SelectGives xs d = (cs : List Typed) × HasColumns catalog given xs d cs × (select_sorts catalog given xs (sorted d) ≡ sorts_of cs) × IsGivenBy (λ name. select_gives name xs) cs
 
   abbrev CoreGives : Core → formed.Scope → Type 0
-  CoreGives x d = (cs : List Typed) × CoreHas catalog params x d cs × (core_sorts catalog given x (sorted d) ≡ sorts_of cs) × IsGivenBy (λ name. core_gives name x) cs
+  CoreGives x d = (cs : List Typed) × CoreHas catalog given x d cs × (core_sorts catalog given x (sorted d) ≡ sorts_of cs) × IsGivenBy (λ name. core_gives name x) cs
 
   abbrev ColumnsGive : {m : _} → Row_of-Column m → List Name → formed.Scope → Type 0
   ColumnsGive xs before d =
-      (cs : List Typed) × ColumnsHave catalog params xs d cs × (column_sorts catalog given xs (sorted d) ≡ sorts_of cs) × IsGivenBy (λ name. gives_column name xs) cs × AreNew before (names_of cs) × AreApart (names_of cs)
+      (cs : List Typed) × ColumnsHave catalog given xs d cs × (column_sorts catalog given xs (sorted d) ≡ sorts_of cs) × IsGivenBy (λ name. gives_column name xs) cs × AreNew before (names_of cs) × AreApart (names_of cs)
 
   abbrev ItemsGive : {m : _} → Row_of-FromItem m → List Name → Scope → formed.Scope → Type 0
-  ItemsGive xs names n d = (into : formed.Scope) × HaveAliases catalog params xs names d into × Gives catalog (inside xs n) into × (within catalog given xs (sorted d) ≡ sorted into)
+  ItemsGive xs names n d = (into : formed.Scope) × HaveAliases catalog given xs names d into × Gives catalog (inside xs n) into × (within catalog given xs (sorted d) ≡ sorted into)
 
   abbrev ItemGives : FromItem → List Name → formed.Scope → Type 0
-  ItemGives x names d = (cs : List Typed) × ItemHas catalog params x names d cs × (item_sorts catalog given x (sorted d) ≡ sorts_of cs) × IsGivenBy (λ name. has_column catalog name x) cs
+  ItemGives x names d = (cs : List Typed) × ItemHas catalog given x names d cs × (item_sorts catalog given x (sorted d) ≡ sorts_of cs) × IsGivenBy (λ name. has_column catalog name x) cs
 
   -- no name fails in the parts of a core, and no type
   abbrev NoNames : {l m n : _} → Row_of-Column l → Row_of-FromItem m → Held-Body-condition → Row_of-Key n → Held-Body-condition → Held-Body-condition → List Places → Scope → Type 0
@@ -139,42 +131,42 @@ module _ (catalog : Catalog) (params given : List Param) (same : (name : List �
         let found : (cs : List Typed) × (t : SqlTy) × (columns_under alias d ≡ Some cs) × (type_under name cs ≡ Some t) = listed_sound name _ listed in
         (found.1, ap known (type_is alias name d ∙ ap (λ (o : Option (List Typed)). type_listed name o) found.2 ∙ found.3), (s.0, s.1, found.0, found.2, found.3))
     expr_sound (e.Arg name u) ps qs n d g s h k =
-        let j : IsJudged (arg_verdict u (type_of_param name given)) (λ t. (r : ScalarTy) × (u ≡ ty.Scalar r) × (t ≡ u) × (type_of_param name given ≡ Some r)) = arg_sound u _ _ k in
-        (j.0, j.1, (j.2.0, j.2.1, j.2.2, sym (same name) ∙ j.2.3))
+        let j : IsJudged (arg_verdict u (type_under name given)) (λ t. (r : ScalarTy) × (u ≡ ty.Scalar r) × (t ≡ u) × (type_under name given ≡ Some u)) = arg_sound u _ _ k in
+        j
     expr_sound (e.Global name) ps qs n d g s h k =
         let found : (t : SqlTy) × (type_under name catalog.globals ≡ Some t) = there_sound _ (holds _ _ h) in
         (found.0, ap known found.1, found.1)
     expr_sound (e.Array' _ cores) ps qs n d g s h k =
         let a : SelectGives cores d = cores_sound cores (inner (inner ps)) (inner (inner qs)) n d g s h (no_first _ _ k) in
-        let j : IsJudged (array_verdict (all_types (select_sorts catalog given cores (sorted d)))) (λ t. (x : Typed) × (a.0 ≡ x ∷ []) × (t ≡ ty.Array x.ty)) = one_column _ a.0 _ a.2 (no_more _ _ k) in
-        (j.0, j.1, (j.2.0, subst (λ (cs : List Typed). HasColumns catalog params cores d cs) j.2.1 a.1, j.2.2))
+        let j : IsJudged (array_verdict (select_sorts catalog given cores (sorted d))) (λ t. (x : Typed) × (a.0 ≡ x ∷ []) × (t ≡ ty.Array x.ty)) = one_column _ a.0 _ a.2 (no_more _ _ k) in
+        (j.0, j.1, (j.2.0, subst (λ (cs : List Typed). HasColumns catalog given cores d cs) j.2.1 a.1, j.2.2))
     expr_sound (e.Row' _ parts) ps qs n d g s h k =
         let a : AreTyped parts d = exprs_sound parts (inner ps) (inner qs) n d g s h k in
         (ty.Row a.0, ap row_verdict a.2, (a.0, a.1, refl))
     expr_sound (e.Part' _ (more_of-SqlExpr x end_of-SqlExpr) z) ps qs n d g s h k =
         let a : IsTyped x d = expr_sound x (inner ps) (inner qs) n d g s h (no_first _ _ k) in
         let j : IsJudged (part_verdict a.0 z) (λ t. IsPart a.0 z t) = part_sound a.0 z _ (subst (λ (v : Verdict). failing (over v (λ b. part_verdict b z)) (start qs) ≡ []) a.1 (no_more _ _ k)) in
-        (j.0, ap (λ (v : Verdict). over v (λ b. part_verdict b z)) a.1 ∙ j.1, (j.2.0, j.2.1, subst (λ (t : SqlTy). HasType catalog params x d t) j.2.2 a.2, j.2.3, j.2.4))
+        (j.0, ap (λ (v : Verdict). over v (λ b. part_verdict b z)) a.1 ∙ j.1, (j.2.0, j.2.1, subst (λ (t : SqlTy). HasType catalog given x d t) j.2.2 a.2, j.2.3, j.2.4))
     expr_sound (e.Case' _ (more_of-SqlExpr x end_of-SqlExpr) _ (more_of-SqlExpr y end_of-SqlExpr) _ (more_of-SqlExpr z end_of-SqlExpr)) ps qs n d g s h k =
         let a : IsTyped x d = expr_sound x (inner ps) (inner qs) n d g s.0 (no_first _ _ h) (no_first _ _ (no_first _ _ k)) in
         let b : IsTyped y d = expr_sound y (rest (inner ps)) (rest (inner qs)) n d g s.1 (no_first _ _ (no_more _ _ h)) (no_first _ _ (no_more _ _ k)) in
         let c : IsTyped z d = expr_sound z (rest (rest (inner ps))) (rest (rest (inner qs))) n d g s.2 (no_more _ _ (no_more _ _ h)) (no_first _ _ (no_more _ _ (no_more _ _ k))) in
         let truth : is_of scalar.Bool a.0 ≡ true = placed (is_of scalar.Bool) _ a.0 _ a.1 (no_more _ _ (no_first _ _ k)) in
-        let whole : of_choice (verdict catalog given x (sorted d)) (verdict catalog given y (sorted d)) (verdict catalog given z (sorted d)) ≡ case_verdict b.0 c.0 = chosen _ _ _ a.0 b.0 c.0 a.1 b.1 c.1 truth in
-        let more : types_in catalog given z (rest (rest (inner qs))) (sorted d) ++ failing (of_choice (verdict catalog given x (sorted d)) (verdict catalog given y (sorted d)) (verdict catalog given z (sorted d))) (start qs) ≡ [] = no_more _ _ (no_more _ _ k) in
+        let whole : choice_verdict (verdict catalog given x (sorted d)) (verdict catalog given y (sorted d)) (verdict catalog given z (sorted d)) ≡ case_verdict b.0 c.0 = chosen _ _ _ a.0 b.0 c.0 a.1 b.1 c.1 truth in
+        let more : types_in catalog given z (rest (rest (inner qs))) (sorted d) ++ failing (choice_verdict (verdict catalog given x (sorted d)) (verdict catalog given y (sorted d)) (verdict catalog given z (sorted d))) (start qs) ≡ [] = no_more _ _ (no_more _ _ k) in
         let j : IsJudged (case_verdict b.0 c.0) (λ t. (t ≡ b.0) × (c.0 ≡ b.0)) = case_sound b.0 c.0 (start qs) (subst (λ (v : Verdict). failing v (start qs) ≡ []) whole (no_more _ _ more)) in (
           j.0,
           whole ∙ j.1,
           (
-            subst (λ (t : SqlTy). HasType catalog params x d t) (scalar_it_is scalar.Bool a.0 truth) a.2,
-            subst (λ (t : SqlTy). HasType catalog params y d t) (sym j.2.0) b.2,
-            subst (λ (t : SqlTy). HasType catalog params z d t) (j.2.1 ∙ sym j.2.0) c.2,
+            subst (λ (t : SqlTy). HasType catalog given x d t) (scalar_it_is scalar.Bool a.0 truth) a.2,
+            subst (λ (t : SqlTy). HasType catalog given y d t) (sym j.2.0) b.2,
+            subst (λ (t : SqlTy). HasType catalog given z d t) (j.2.1 ∙ sym j.2.0) c.2,
           ),
         )
     expr_sound (e.Cast' _ (more_of-SqlExpr x end_of-SqlExpr) u) ps qs n d g s h k =
         let a : IsTyped x d = expr_sound x (inner ps) (inner qs) n d g s h (no_first _ _ k) in
         let j : IsJudged (cast_verdict a.0 u) (λ t. IsCast a.0 u t) = cast_sound a.0 u _ (subst (λ (v : Verdict). failing (over v (λ b. cast_verdict b u)) (start qs) ≡ []) a.1 (no_more _ _ k)) in
-        (j.0, ap (λ (v : Verdict). over v (λ b. cast_verdict b u)) a.1 ∙ j.1, (j.2.0, j.2.1, subst (λ (t : SqlTy). HasType catalog params x d t) j.2.2 a.2, j.2.3, j.2.4, j.2.5))
+        (j.0, ap (λ (v : Verdict). over v (λ b. cast_verdict b u)) a.1 ∙ j.1, (j.2.0, j.2.1, subst (λ (t : SqlTy). HasType catalog given x d t) j.2.2 a.2, j.2.3, j.2.4, j.2.5))
     expr_sound (e.Unary' operator _ (more_of-SqlExpr x end_of-SqlExpr)) ps qs n d g s h k =
         let a : IsTyped x d = expr_sound x (inner ps) (inner qs) n d g s h (no_first _ _ k) in
         let j : IsJudged (unary_verdict operator a.0) (λ t. UnaryType operator a.0 t) = unary_sound operator a.0 _ (subst (λ (v : Verdict). failing (over v (λ b. unary_verdict operator b)) (start qs) ≡ []) a.1 (no_more _ _ k)) in
@@ -202,17 +194,15 @@ module _ (catalog : Catalog) (params given : List Param) (same : (name : List �
     cores_sound end_of-Core ps qs n d g s h k = absurd s
     cores_sound (more_of-Core core more) ps qs n d g s h k =
         let a : CoreGives core d = core_sound core ps qs n d g s.0 (no_first _ _ h) (no_first _ _ k) in
-        let types : all_types (core_sorts catalog given core (sorted d)) ≡ Some (types_of a.0) = ap all_types a.2 ∙ all_typed a.0 in
-        let b : AreLike catalog params more d (types_of a.0) = like_sound more (types_of a.0) (rest ps) (rest qs) n d g s.1 (no_more _ _ h) (subst (λ (o : Option (List SqlTy)). types_in_further catalog given more o (rest qs) (sorted d) ≡ []) types (no_more _ _ k)) in
+        let b : AreLike catalog given more d (types_of a.0) = like_sound more a.0 (rest ps) (rest qs) n d g s.1 (no_more _ _ h) (subst (λ (l : List Sort). types_in_further catalog given more l (rest qs) (sorted d) ≡ []) a.2 (no_more _ _ k)) in
         (a.0, (a.1, b), a.2, a.3)
 
-    like_sound : {m : _} → (xs : Row_of-Core m) (ts : List SqlTy) (ps qs : List Places) (n : Scope) (d : formed.Scope) → Gives catalog n d → FurtherAreSpelled xs → names_in_cores catalog xs ps n ≡ [] → types_in_further catalog given xs (Some ts) qs (sorted d) ≡ [] → AreLike catalog params xs d ts
-    like_sound end_of-Core ts ps qs n d g s h k = tt
-    like_sound (more_of-Core core more) ts ps qs n d g s h k =
+    like_sound : {m : _} → (xs : Row_of-Core m) (fs : List Typed) (ps qs : List Places) (n : Scope) (d : formed.Scope) → Gives catalog n d → FurtherAreSpelled xs → names_in_cores catalog xs ps n ≡ [] → types_in_further catalog given xs (sorts_of fs) qs (sorted d) ≡ [] → AreLike catalog given xs d (types_of fs)
+    like_sound end_of-Core fs ps qs n d g s h k = tt
+    like_sound (more_of-Core core more) fs ps qs n d g s h k =
         let a : CoreGives core d = core_sound core ps qs n d g s.0 (no_first _ _ h) (no_first _ _ k) in
-        let types : all_types (core_sorts catalog given core (sorted d)) ≡ Some (types_of a.0) = ap all_types a.2 ∙ all_typed a.0 in
-        let equal : types_of a.0 ≡ ts = equal_lists ts (types_of a.0) (subst (λ (o : Option (List SqlTy)). alike (Some ts) o ≡ true) types (are_alike _ _ (no_first _ _ (no_more _ _ k)))) in
-        (a.0, a.1, equal, like_sound more ts (rest ps) (rest qs) n d g s.1 (no_more _ _ h) (no_more _ _ (no_more _ _ k)))
+        let equal : types_of a.0 ≡ types_of fs = like_types fs a.0 (subst (λ (l : List Sort). alike (sorts_of fs) l ≡ true) a.2 (are_alike _ _ (no_first _ _ (no_more _ _ k)))) in
+        (a.0, a.1, equal, like_sound more fs (rest ps) (rest qs) n d g s.1 (no_more _ _ h) (no_more _ _ (no_more _ _ k)))
 
     core_sound : (x : Core) (ps qs : List Places) (n : Scope) (d : formed.Scope) → Gives catalog n d → CoreIsSpelled x → names_in_core catalog x ps n ≡ [] → types_in_core catalog given x qs (sorted d) ≡ [] → CoreGives x d
     core_sound (c.All' s1 columns s2 items condition s3 keys offset limit) ps qs n d g s h k =
@@ -221,22 +211,22 @@ module _ (catalog : Catalog) (params given : List Param) (same : (name : List �
         let begin : ItemsAreSpelled items × Begins items = further_items items s.1 in
         let from : ItemsGive items [] n d = items_sound items [] [] (at_items columns ps) (at_items columns qs) n n d refl no_aliases (inr begin.1) g begin.0 none.1 suits.0 in
         let a : ColumnsGive columns [] from.0 = columns_sound columns [] (inner ps) (inner qs) (inside items n) from.0 from.2 (further_columns columns s.0) none.0 (subst (λ (z : Sorts). types_in_columns catalog given columns (inner qs) z ≡ []) from.3 suits.1) in
-        let b : IsCondition catalog params condition from.0 = condition_sound condition (at_condition columns items ps) (at_condition columns items qs) (inside items n) from.0 from.2 s.2 none.2 (subst (λ (z : Sorts). types_in_option catalog given condition (is_of scalar.Bool) (at_condition columns items qs) z ≡ []) from.3 suits.2) in
-        let order : AreKeys catalog params keys from.0 = keys_sound keys (at_keys columns items condition ps) (at_keys columns items condition qs) (inside items n) from.0 from.2 s.3 none.3 (subst (λ (z : Sorts). types_in_keys catalog given keys (at_keys columns items condition qs) z ≡ []) from.3 suits.3) in
-        let low : IsBound catalog params offset d = bound_sound offset (at_offset columns items condition keys ps) (at_offset columns items condition keys qs) n d g s.4 none.4 suits.4 in
-        let high : IsBound catalog params limit d = bound_sound limit (at_limit columns items condition keys offset ps) (at_limit columns items condition keys offset qs) n d g s.5 none.5 suits.5 in
-        (a.0, (from.0, from.1, a.1, some_columns catalog params columns from.0 a.0 s.0 a.1, a.5, b, order, low, high), ap (λ (z : Sorts). column_sorts catalog given columns z) from.3 ∙ a.2, a.3)
+        let b : IsCondition catalog given condition from.0 = condition_sound condition (at_condition columns items ps) (at_condition columns items qs) (inside items n) from.0 from.2 s.2 none.2 (subst (λ (z : Sorts). types_in_option catalog given condition (is_of scalar.Bool) (at_condition columns items qs) z ≡ []) from.3 suits.2) in
+        let order : AreKeys catalog given keys from.0 = keys_sound keys (at_keys columns items condition ps) (at_keys columns items condition qs) (inside items n) from.0 from.2 s.3 none.3 (subst (λ (z : Sorts). types_in_keys catalog given keys (at_keys columns items condition qs) z ≡ []) from.3 suits.3) in
+        let low : IsBound catalog given offset d = bound_sound offset (at_offset columns items condition keys ps) (at_offset columns items condition keys qs) n d g s.4 none.4 suits.4 in
+        let high : IsBound catalog given limit d = bound_sound limit (at_limit columns items condition keys offset ps) (at_limit columns items condition keys offset qs) n d g s.5 none.5 suits.5 in
+        (a.0, (from.0, from.1, a.1, some_columns catalog given columns from.0 a.0 s.0 a.1, a.5, b, order, low, high), ap (λ (z : Sorts). column_sorts catalog given columns z) from.3 ∙ a.2, a.3)
     core_sound (c.Distinct' s1 columns s2 items condition s3 keys offset limit) ps qs n d g s h k =
         let none : NoNames columns items condition keys offset limit ps n = six _ _ _ _ _ _ h in
         let suits : NoTypes columns items condition keys offset limit qs (sorted d) = six _ _ _ _ _ _ k in
         let begin : ItemsAreSpelled items × Begins items = further_items items s.1 in
         let from : ItemsGive items [] n d = items_sound items [] [] (at_items columns ps) (at_items columns qs) n n d refl no_aliases (inr begin.1) g begin.0 none.1 suits.0 in
         let a : ColumnsGive columns [] from.0 = columns_sound columns [] (inner ps) (inner qs) (inside items n) from.0 from.2 (further_columns columns s.0) none.0 (subst (λ (z : Sorts). types_in_columns catalog given columns (inner qs) z ≡ []) from.3 suits.1) in
-        let b : IsCondition catalog params condition from.0 = condition_sound condition (at_condition columns items ps) (at_condition columns items qs) (inside items n) from.0 from.2 s.2 none.2 (subst (λ (z : Sorts). types_in_option catalog given condition (is_of scalar.Bool) (at_condition columns items qs) z ≡ []) from.3 suits.2) in
-        let order : AreKeys catalog params keys from.0 = keys_sound keys (at_keys columns items condition ps) (at_keys columns items condition qs) (inside items n) from.0 from.2 s.3 none.3 (subst (λ (z : Sorts). types_in_keys catalog given keys (at_keys columns items condition qs) z ≡ []) from.3 suits.3) in
-        let low : IsBound catalog params offset d = bound_sound offset (at_offset columns items condition keys ps) (at_offset columns items condition keys qs) n d g s.4 none.4 suits.4 in
-        let high : IsBound catalog params limit d = bound_sound limit (at_limit columns items condition keys offset ps) (at_limit columns items condition keys offset qs) n d g s.5 none.5 suits.5 in
-        (a.0, (from.0, from.1, a.1, some_columns catalog params columns from.0 a.0 s.0 a.1, a.5, b, order, low, high), ap (λ (z : Sorts). column_sorts catalog given columns z) from.3 ∙ a.2, a.3)
+        let b : IsCondition catalog given condition from.0 = condition_sound condition (at_condition columns items ps) (at_condition columns items qs) (inside items n) from.0 from.2 s.2 none.2 (subst (λ (z : Sorts). types_in_option catalog given condition (is_of scalar.Bool) (at_condition columns items qs) z ≡ []) from.3 suits.2) in
+        let order : AreKeys catalog given keys from.0 = keys_sound keys (at_keys columns items condition ps) (at_keys columns items condition qs) (inside items n) from.0 from.2 s.3 none.3 (subst (λ (z : Sorts). types_in_keys catalog given keys (at_keys columns items condition qs) z ≡ []) from.3 suits.3) in
+        let low : IsBound catalog given offset d = bound_sound offset (at_offset columns items condition keys ps) (at_offset columns items condition keys qs) n d g s.4 none.4 suits.4 in
+        let high : IsBound catalog given limit d = bound_sound limit (at_limit columns items condition keys offset ps) (at_limit columns items condition keys offset qs) n d g s.5 none.5 suits.5 in
+        (a.0, (from.0, from.1, a.1, some_columns catalog given columns from.0 a.0 s.0 a.1, a.5, b, order, low, high), ap (λ (z : Sorts). column_sorts catalog given columns z) from.3 ∙ a.2, a.3)
 
     columns_sound : {m : _} → (xs : Row_of-Column m) (before : List Name) (ps qs : List Places) (n : Scope) (d : formed.Scope) → Gives catalog n d → FurtherColumnsAreSpelled xs → names_in_columns catalog xs before ps n ≡ [] → types_in_columns catalog given xs qs (sorted d) ≡ [] → ColumnsGive xs before d
     columns_sound end_of-Column before ps qs n d g s h k = ([], refl, refl, λ name. refl, none_new before, tt)
@@ -280,17 +270,17 @@ module _ (catalog : Catalog) (params given : List Param) (same : (name : List �
         let a : IsTyped array d = expr_sound array (inner ps) (inner qs) n d g s h (no_first _ _ k) in
         let el : (u : SqlTy) × (a.0 ≡ ty.Array u) = array_sound a.0 (placed is_array _ a.0 _ a.1 (no_more _ _ k)) in (
           element_column el.0,
-          (el.0, subst (λ (t : SqlTy). HasType catalog params array d t) el.1 a.2, refl),
+          (el.0, subst (λ (t : SqlTy). HasType catalog given array d t) el.1 a.2, refl),
           ap (λ (v : Verdict). element_sort (element_in (type_in v))) (a.1 ∙ ap Has el.1) ∙ ap element_sort (element_array el.0),
           λ name. element_gives name el.0,
         )
 
-    keys_sound : {m : _} → (xs : Row_of-Key m) (ps qs : List Places) (n : Scope) (d : formed.Scope) → Gives catalog n d → KeysAreSpelled xs → names_in_keys catalog xs ps n ≡ [] → types_in_keys catalog given xs qs (sorted d) ≡ [] → AreKeys catalog params xs d
+    keys_sound : {m : _} → (xs : Row_of-Key m) (ps qs : List Places) (n : Scope) (d : formed.Scope) → Gives catalog n d → KeysAreSpelled xs → names_in_keys catalog xs ps n ≡ [] → types_in_keys catalog given xs qs (sorted d) ≡ [] → AreKeys catalog given xs d
     keys_sound end_of-Key ps qs n d g s h k = tt
     keys_sound (more_of-Key first more) ps qs n d g s h k =
         (key_sound first ps qs n d g s.0 (no_first _ _ h) (no_first _ _ k), keys_sound more (rest ps) (rest qs) n d g s.1 (no_more _ _ h) (no_more _ _ k))
 
-    key_sound : (x : Key) (ps qs : List Places) (n : Scope) (d : formed.Scope) → Gives catalog n d → KeyIsSpelled x → names_in_key catalog x ps n ≡ [] → types_in_key catalog given x qs (sorted d) ≡ [] → IsKey catalog params x d
+    key_sound : (x : Key) (ps qs : List Places) (n : Scope) (d : formed.Scope) → Gives catalog n d → KeyIsSpelled x → names_in_key catalog x ps n ≡ [] → types_in_key catalog given x qs (sorted d) ≡ [] → IsKey catalog given x d
     key_sound (k.Ascending value nulls) ps qs n d g s h k =
         let a : IsTyped value d = expr_sound value ps qs n d g s h (no_first _ _ k) in
         (a.0, scalar_sound a.0 (placed is_scalar _ a.0 _ a.1 (no_more _ _ k)), a.2)
@@ -298,38 +288,36 @@ module _ (catalog : Catalog) (params given : List Param) (same : (name : List �
         let a : IsTyped value d = expr_sound value ps qs n d g s h (no_first _ _ k) in
         (a.0, scalar_sound a.0 (placed is_scalar _ a.0 _ a.1 (no_more _ _ k)), a.2)
 
-    condition_sound : (x : Held-Body-condition) (ps qs : List Places) (n : Scope) (d : formed.Scope) → Gives catalog n d → HeldIsSpelled x → names_in_option catalog x ps n ≡ [] → types_in_option catalog given x (is_of scalar.Bool) qs (sorted d) ≡ [] → IsCondition catalog params x d
+    condition_sound : (x : Held-Body-condition) (ps qs : List Places) (n : Scope) (d : formed.Scope) → Gives catalog n d → HeldIsSpelled x → names_in_option catalog x ps n ≡ [] → types_in_option catalog given x (is_of scalar.Bool) qs (sorted d) ≡ [] → IsCondition catalog given x d
     condition_sound None' ps qs n d g s h k = tt
     condition_sound (Some' _ (more_of-SqlExpr x end_of-SqlExpr)) ps qs n d g s h k =
         let a : IsTyped x d = expr_sound x ps qs n d g s h (no_first _ _ k) in
-        subst (λ (t : SqlTy). HasType catalog params x d t) (scalar_it_is scalar.Bool a.0 (placed (is_of scalar.Bool) _ a.0 _ a.1 (no_more _ _ k))) a.2
+        subst (λ (t : SqlTy). HasType catalog given x d t) (scalar_it_is scalar.Bool a.0 (placed (is_of scalar.Bool) _ a.0 _ a.1 (no_more _ _ k))) a.2
 
-    bound_sound : (x : Held-Body-condition) (ps qs : List Places) (n : Scope) (d : formed.Scope) → Gives catalog n d → HeldIsSpelled x → names_in_option catalog x ps n ≡ [] → types_in_option catalog given x (is_of scalar.Int64) qs (sorted d) ≡ [] → IsBound catalog params x d
+    bound_sound : (x : Held-Body-condition) (ps qs : List Places) (n : Scope) (d : formed.Scope) → Gives catalog n d → HeldIsSpelled x → names_in_option catalog x ps n ≡ [] → types_in_option catalog given x (is_of scalar.Int64) qs (sorted d) ≡ [] → IsBound catalog given x d
     bound_sound None' ps qs n d g s h k = tt
     bound_sound (Some' _ (more_of-SqlExpr x end_of-SqlExpr)) ps qs n d g s h k =
         let a : IsTyped x d = expr_sound x ps qs n d g s h (no_first _ _ k) in
-        subst (λ (t : SqlTy). HasType catalog params x d t) (scalar_it_is scalar.Int64 a.0 (placed (is_of scalar.Int64) _ a.0 _ a.1 (no_more _ _ k))) a.2
+        subst (λ (t : SqlTy). HasType catalog given x d t) (scalar_it_is scalar.Int64 a.0 (placed (is_of scalar.Int64) _ a.0 _ a.1 (no_more _ _ k))) a.2
 
   -- ---- the cores of a statement
 
-  all_sound : (xs : List Core) (ts : List SqlTy) (ps qs : List Places) → FurtherCoresAreSpelled xs → names_in_list catalog xs ps [] ≡ [] → types_in_further_list catalog given xs (Some ts) qs [] ≡ [] → AreAllLike catalog params xs [] ts
-  all_sound [] ts ps qs s h k = tt
-  all_sound (core ∷ more) ts ps qs s h k =
+  all_sound : (xs : List Core) (fs : List Typed) (ps qs : List Places) → FurtherCoresAreSpelled xs → names_in_list catalog xs ps [] ≡ [] → types_in_further_list catalog given xs (sorts_of fs) qs [] ≡ [] → AreAllLike catalog given xs [] (types_of fs)
+  all_sound [] fs ps qs s h k = tt
+  all_sound (core ∷ more) fs ps qs s h k =
       let a : CoreGives core [] = core_sound core ps qs [] [] tt s.0 (no_first _ _ h) (no_first _ _ k) in
-      let types : all_types (core_sorts catalog given core []) ≡ Some (types_of a.0) = ap all_types a.2 ∙ all_typed a.0 in
-      let equal : types_of a.0 ≡ ts = equal_lists ts (types_of a.0) (subst (λ (o : Option (List SqlTy)). alike (Some ts) o ≡ true) types (are_alike _ _ (no_first _ _ (no_more _ _ k)))) in
-      (a.0, a.1, equal, all_sound more ts (rest ps) (rest qs) s.1 (no_more _ _ h) (no_more _ _ (no_more _ _ k)))
+      let equal : types_of a.0 ≡ types_of fs = like_types fs a.0 (subst (λ (l : List Sort). alike (sorts_of fs) l ≡ true) a.2 (are_alike _ _ (no_first _ _ (no_more _ _ k)))) in
+      (a.0, a.1, equal, all_sound more fs (rest ps) (rest qs) s.1 (no_more _ _ h) (no_more _ _ (no_more _ _ k)))
 
-  select_sound : (xs : List Core) (ps qs : List Places) → SelectIsSpelled xs → names_in_list catalog xs ps [] ≡ [] → types_in_list catalog given xs qs [] ≡ [] → (cs : List Typed) × SelectHas catalog params xs [] cs
+  select_sound : (xs : List Core) (ps qs : List Places) → SelectIsSpelled xs → names_in_list catalog xs ps [] ≡ [] → types_in_list catalog given xs qs [] ≡ [] → (cs : List Typed) × SelectHas catalog given xs [] cs
   select_sound [] ps qs s h k = absurd s
   select_sound (core ∷ more) ps qs s h k =
       let a : CoreGives core [] = core_sound core ps qs [] [] tt s.0 (no_first _ _ h) (no_first _ _ k) in
-      let types : all_types (core_sorts catalog given core []) ≡ Some (types_of a.0) = ap all_types a.2 ∙ all_typed a.0 in
-      let b : AreAllLike catalog params more [] (types_of a.0) = all_sound more (types_of a.0) (rest ps) (rest qs) s.1 (no_more _ _ h) (subst (λ (o : Option (List SqlTy)). types_in_further_list catalog given more o (rest qs) [] ≡ []) types (no_more _ _ k)) in
+      let b : AreAllLike catalog given more [] (types_of a.0) = all_sound more a.0 (rest ps) (rest qs) s.1 (no_more _ _ h) (subst (λ (l : List Sort). types_in_further_list catalog given more l (rest qs) [] ≡ []) a.2 (no_more _ _ k)) in
       (a.0, (a.1, b))
 
 pub sound : (catalog : Catalog) (s : Stmt) (place : Places) → StatementIsSpelled s → HasNoFault catalog s place → IsWellFormed catalog s
 sound catalog s place spelled h =
     let found : (cs : List Typed) × SelectHas catalog (args_of s) s.select.cores [] cs =
-    select_sound catalog (args_of s) (params_of s) (those_that_occur.occur s) s.select.cores (parts_of place) (parts_of place) spelled.spelled h.names h.types in
+    select_sound catalog (args_of s) s.select.cores (parts_of place) (parts_of place) spelled.spelled h.names h.types in
     record { columns = found.0; typed = found.1; low = spelled.low }

@@ -9,8 +9,9 @@ use Rattle.sql_ast.specs.declared.ty.SqlTy.{SqlTy}
 use Rattle.sql_ast.specs.declared.ty.SqlTy.TheBlock as block
 use Rattle.sql_ast.specs.declared.ty.SqlTy.TheVariants as ty
 use Rattle.sql_ast.specs.Types.{BOOL}
+use Rattle.sql_check.specs.declared.sort.Sort.{Sort}
 use Rattle.sql_check.specs.declared.verdict.Verdict.TheVariants.{Fails}
-use Rattle.sql_check.specs.Types.{same_scalar, same_type, same_types, all_same, alike, is_of, is_array, has_if, has_some, compared, element_of, function_verdict, casts, cast_verdict, type_at, part_verdict, arg_verdict}
+use Rattle.sql_check.specs.Types.{same_scalar, same_type, same_types, all_same, agree, alike, is_of, is_array, has_if, has_some, compared, element_of, function_verdict, casts, cast_verdict, type_at, part_verdict, arg_verdict}
 use Rattle.sql_check.specs.TypeLists.{elements_verdict, scalar_verdict, place_of, part_of}
 use denote.Hole.Carrier as carrier
 
@@ -68,7 +69,7 @@ scalar_itself scalar.Str = refl
 scalar_itself scalar.Bool = refl
 scalar_itself scalar.Uuid = refl
 
-both_true : (a b : Bool) → a ≡ true → b ≡ true → (a && b) ≡ true
+pub both_true : (a b : Bool) → a ≡ true → b ≡ true → (a && b) ≡ true
 both_true a b e f = rw (e, f) refl
 
 mutual
@@ -83,13 +84,13 @@ mutual
   row_itself d.end_of-SqlTy = refl
   row_itself (d.more_of-SqlTy t row) = both_true (same_type t t) (same_types row row) (same_itself t) (row_itself row)
 
-all_like : (ts : List SqlTy) → all_same ts ts ≡ true
-all_like [] = refl
-all_like (t ∷ ts) = both_true (same_type t t) (all_same ts ts) (same_itself t) (all_like ts)
+agrees_itself : (o : Option SqlTy) → agree o o ≡ true
+agrees_itself None = refl
+agrees_itself (Some t) = same_itself t
 
-pub like_itself : (o : Option (List SqlTy)) → alike o o ≡ true
-like_itself None = refl
-like_itself (Some ts) = all_like ts
+pub like_itself : (l : List Sort) → alike l l ≡ true
+like_itself [] = refl
+like_itself (x ∷ more) = both_true (agree x.ty x.ty) (alike more more) (agrees_itself x.ty) (like_itself more)
 
 -- ---- the tables
 
@@ -170,16 +171,16 @@ function_array function.AssertSingle t = refl
 function_array function.AssertExists t = refl
 function_array function.AssertDistinct t = refl
 
-pub arg_scalar : (s first : ScalarTy) → arg_verdict (ty.Scalar s) (Some first) ≡ has_if (same_scalar s first) (ty.Scalar s)
+pub arg_scalar : (s : ScalarTy) (first : SqlTy) → arg_verdict (ty.Scalar s) (Some first) ≡ has_if (is_of s first) (ty.Scalar s)
 arg_scalar s first = refl
 
 pub arg_none : (s : ScalarTy) → arg_verdict (ty.Scalar s) None ≡ Fails
 arg_none s = refl
 
-pub arg_row : (ts : List SqlTy) (o : Option ScalarTy) → arg_verdict (ty.Row ts) o ≡ Fails
+pub arg_row : (ts : List SqlTy) (o : Option SqlTy) → arg_verdict (ty.Row ts) o ≡ Fails
 arg_row ts o = refl
 
-pub arg_array : (t : SqlTy) (o : Option ScalarTy) → arg_verdict (ty.Array t) o ≡ Fails
+pub arg_array : (t : SqlTy) (o : Option SqlTy) → arg_verdict (ty.Array t) o ≡ Fails
 arg_array t o = refl
 
 -- ---- parts of rows

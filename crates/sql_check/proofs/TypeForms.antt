@@ -1,7 +1,6 @@
 -- What is said of each form, and what each gives, at the code's constructors.
-use Rattle.std.proofs.Common.{◌≡◌, ◌∙◌, ℕ, ℤ, Bool, List, [], ◌∷◌, ◌++◌, Option, Some, None, Result, IfOk, subst, refl, ap, sym}
-use Rattle.ev_value.specs.declared.value.ScalarTy.TheVariants as scalar
-use Rattle.ev_list.specs.declared.param.Param.{Param}
+use Rattle.std.proofs.Common.{◌≡◌, ◌∙◌, ℕ, ℤ, Bool, List, [], ◌∷◌, Result, IfOk, subst, refl, ap, sym}
+use Rattle.sql_ast.specs.declared.catalog.Typed.{Typed}
 use Rattle.sql_ast.specs.declared.catalog.Catalog.{Catalog}
 use Rattle.sql_ast.specs.declared.expression.Binary.{Binary}
 use Rattle.sql_ast.specs.declared.expression.Case.{Case}
@@ -18,19 +17,17 @@ use Rattle.sql_ast.specs.declared.select.FromItem.{FromItem}
 use Rattle.sql_ast.specs.declared.select.FromItem.TheVariants as from
 use Rattle.sql_ast.specs.declared.select.Select.{Select}
 use Rattle.sql_ast.specs.declared.ty.SqlTy.{SqlTy}
-use Rattle.sql_ast.specs.Params.{type_of_param}
 use Rattle.sql_ast.specs.Types.{INT, TEXT, BOOL, UUID}
 use Rattle.sql_ast.specs.WellFormed.{Name, type_under, columns_under}
 use Rattle.sql_check.specs.declared.sort.Known.{Known}
 use Rattle.sql_check.specs.declared.sort.Sort.{Sort}
 use Rattle.sql_check.specs.SortFrames.{with_known}
-use Rattle.sql_check.specs.declared.verdict.Verdict.{Verdict}
 use Rattle.sql_check.specs.declared.verdict.Verdict.TheVariants.{Has}
-use Rattle.sql_check.specs.Types.{Sorts, known, column_type, arg_verdict, array_verdict, row_verdict, all_types, with_first, type_in, table_sorts, element_sort, element_in, verdict, verdicts, select_sorts, core_sorts, column_sorts, within, item_sorts}
+use Rattle.sql_check.specs.Types.{Sorts, known, column_type, arg_verdict, array_verdict, row_verdict, with_first, type_in, table_sorts, element_sort, element_in, verdict, verdicts, select_sorts, core_sorts, column_sorts, within, item_sorts}
 use Rattle.sql_check.specs.TypeLists.{of_unary, of_binary, of_cast, of_part, of_call, of_place, of_case, verdicts_of, sorts_of_cores, column_of, sorts_of_columns, known_of, within_items}
 use denote.Hole.Carrier as carrier
 
-module _ (catalog : Catalog) (params : List Param) where
+module _ (catalog : Catalog) (params : List Typed) where
   cores_hidden : (cs : List Core) (d : Sorts) → select_sorts catalog params (block.hidden-the_row-Core-0 cs) d ≡ sorts_of_cores catalog params cs d
   unfolding verdict block.hidden-the_row-Core-0 carrier.hidden
   cores_hidden [] d = refl
@@ -75,7 +72,7 @@ module _ (catalog : Catalog) (params : List Param) where
   unfolding verdict
   sorts_unnest array alias d = refl
 
-module _ (catalog : Catalog) (params : List Param) (d : Sorts) where
+module _ (catalog : Catalog) (params : List Typed) (d : Sorts) where
   pub int_verdict : (z : ℤ) → verdict catalog params (expr.Int z) d ≡ Has INT
   unfolding verdict
   int_verdict z = refl
@@ -100,7 +97,7 @@ module _ (catalog : Catalog) (params : List Param) (d : Sorts) where
   unfolding verdict
   column_verdict alias name = refl
 
-  pub arg_is : (name : List ℕ) (t : SqlTy) → verdict catalog params (expr.Arg name t) d ≡ arg_verdict t (type_of_param name params)
+  pub arg_is : (name : List ℕ) (t : SqlTy) → verdict catalog params (expr.Arg name t) d ≡ arg_verdict t (type_under name params)
   unfolding verdict
   arg_is name t = refl
 
@@ -132,9 +129,9 @@ module _ (catalog : Catalog) (params : List Param) (d : Sorts) where
   unfolding verdict of_call block.hidden-the_row-SqlExpr-2 carrier.hidden
   call_is called operand = refl
 
-  pub array_is : (s : Select) → verdict catalog params (expr.Array s) d ≡ array_verdict (all_types (sorts_of_cores catalog params s.cores d))
+  pub array_is : (s : Select) → verdict catalog params (expr.Array s) d ≡ array_verdict (sorts_of_cores catalog params s.cores d)
   unfolding verdict
-  array_is s = ap (λ l. array_verdict (all_types l)) (cores_hidden catalog params s.cores d)
+  array_is s = ap (λ l. array_verdict l) (cores_hidden catalog params s.cores d)
 
   pub row_is : (es : List SqlExpr) → verdict catalog params (expr.Row es) d ≡ row_verdict (verdicts_of catalog params es d)
   unfolding verdict
@@ -142,7 +139,7 @@ module _ (catalog : Catalog) (params : List Param) (d : Sorts) where
 
 -- ---- the columns of a core
 
-pub core_given : {E : Type 0} (catalog : Catalog) (params : List Param) (d : Sorts) (r : Result (List Sort) E) (cols columns : List Column) (ks known : List Known) (items : List FromItem) (body : Body) (core : Core)
+pub core_given : {E : Type 0} (catalog : Catalog) (params : List Typed) (d : Sorts) (r : Result (List Sort) E) (cols columns : List Column) (ks known : List Known) (items : List FromItem) (body : Body) (core : Core)
     → IfOk r (λ s. s ≡ sorts_of_columns catalog params cols (with_known ks d)) → with_known known d ≡ within_items catalog params items d
     → core_sorts catalog params core d ≡ sorts_of_columns catalog params columns (within_items catalog params body.from d)
     → cols ≡ columns → ks ≡ known → items ≡ body.from → IfOk r (λ s. s ≡ core_sorts catalog params core d)

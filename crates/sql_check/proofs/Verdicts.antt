@@ -8,6 +8,8 @@ use Rattle.sql_ast.specs.declared.expression.Function.{Function}
 use Rattle.sql_ast.specs.declared.expression.Function.TheVariants as function
 use Rattle.sql_ast.specs.declared.expression.UnaryOp.{UnaryOp}
 use Rattle.sql_ast.specs.declared.expression.UnaryOp.TheVariants as unary
+use Rattle.sql_ast.specs.declared.catalog.Typed.{Typed}
+use Rattle.sql_ast.specs.WellFormed.{types_of}
 use Rattle.sql_ast.specs.declared.ty.SqlTy as d
 use Rattle.sql_ast.specs.declared.ty.SqlTy.{SqlTy, Row_of-SqlTy, end_of-SqlTy, more_of-SqlTy, roll-SqlTy, out-SqlTy, items-the_row-SqlTy, roll-out-SqlTy}
 use Rattle.sql_ast.specs.declared.ty.SqlTy.TheVariants as ty
@@ -16,8 +18,9 @@ use Rattle.sql_ast.specs.declared.ty.SqlTy.TheBlock as block
 use Rattle.sql_ast.specs.Types.{INT, BOOL, IsScalar, UnaryType, BinaryType, Compared, Both, FunctionType, Casts}
 use Rattle.sql_check.specs.declared.verdict.Verdict.{Verdict}
 use Rattle.sql_check.specs.declared.verdict.Verdict.TheVariants.{Has}
-use Rattle.sql_check.specs.Types.{same_scalar, same_type, same_types, all_same, is_of, is_scalar, is_array, has_if, has_some, failing, wanted, closed, compared, element_of, with_element, unary_verdict, binary_verdict, function_verdict, casts, cast_verdict, type_at, part_verdict, case_verdict, arg_verdict}
+use Rattle.sql_check.specs.Types.{same_scalar, same_type, same_types, alike, sorts_of, is_of, is_scalar, is_array, has_if, has_some, failing, wanted, closed, compared, element_of, with_element, unary_verdict, binary_verdict, function_verdict, casts, cast_verdict, type_at, part_verdict, case_verdict, arg_verdict}
 use Rattle.sql_check.proofs.Emptiness.{has_it}
+use Rattle.sql_check.proofs.TyForms.{both_true, same_itself}
 use denote.Hole.Carrier.{shown-items, list-listed}
 use denote.Hole.Carrier as carrier
 use mathlib.Core.Former.{Count, list, list_count, this}
@@ -89,14 +92,24 @@ mutual
       let rest : types_in others ≡ types_in more = equal_rows more others (second_true (same_type a b) _ h) in
       λ i. first i ∷ rest i
 
-pub equal_lists : (ts us : List SqlTy) → all_same ts us ≡ true → us ≡ ts
-equal_lists [] [] h = refl
-equal_lists [] (u ∷ us) h = absurd (cc h)
-equal_lists (t ∷ ts) [] h = absurd (cc h)
-equal_lists (t ∷ ts) (u ∷ us) h =
-    let first : u ≡ t = equal_types t u (first_true _ _ h) in
-    let rest : us ≡ ts = equal_lists ts us (second_true (same_type t u) _ h) in
+-- columns with types are alike exactly where their types are the same
+pub like_types : (cs ds : List Typed) → alike (sorts_of cs) (sorts_of ds) ≡ true → types_of ds ≡ types_of cs
+like_types [] [] h = refl
+like_types [] (x ∷ ds) h = absurd (cc h)
+like_types (x ∷ cs) [] h = absurd (cc h)
+like_types (x ∷ cs) (y ∷ ds) h =
+    let first : y.ty ≡ x.ty = equal_types x.ty y.ty (first_true _ _ h) in
+    let rest : types_of ds ≡ types_of cs = like_types cs ds (second_true (same_type x.ty y.ty) _ h) in
     λ i. first i ∷ rest i
+
+pub types_like : (cs ds : List Typed) → types_of ds ≡ types_of cs → alike (sorts_of cs) (sorts_of ds) ≡ true
+types_like [] [] h = refl
+types_like [] (x ∷ ds) h = absurd (cc h)
+types_like (x ∷ cs) [] h = absurd (cc h)
+types_like (x ∷ cs) (y ∷ ds) h =
+    let first : y.ty ≡ x.ty = cc h in
+    let rest : types_of ds ≡ types_of cs = cc h in
+    both_true (same_type x.ty y.ty) (alike (sorts_of cs) (sorts_of ds)) (subst (λ (t : SqlTy). same_type x.ty t ≡ true) (sym first) (same_itself x.ty)) (types_like cs ds rest)
 
 -- ---- kinds of types
 
@@ -253,10 +266,10 @@ part_sound (d.Array' _ row) z byte h = absurd (cc h)
 pub case_sound : (a b : SqlTy) (byte : ℕ) → failing (case_verdict a b) byte ≡ [] → IsJudged (case_verdict a b) (λ t. (t ≡ a) × (b ≡ a))
 case_sound a b byte h = judged_if (same_type a b) a byte (λ t. (t ≡ a) × (b ≡ a)) h (λ is. (refl, equal_types a b is))
 
-pub arg_sound : (u : SqlTy) (o : Option ScalarTy) (byte : ℕ) → failing (arg_verdict u o) byte ≡ [] → IsJudged (arg_verdict u o) (λ t. (s : ScalarTy) × (u ≡ ty.Scalar s) × (t ≡ u) × (o ≡ Some s))
+pub arg_sound : (u : SqlTy) (o : Option SqlTy) (byte : ℕ) → failing (arg_verdict u o) byte ≡ [] → IsJudged (arg_verdict u o) (λ t. (s : ScalarTy) × (u ≡ ty.Scalar s) × (t ≡ u) × (o ≡ Some u))
 arg_sound (d.Scalar s) None byte h = absurd (cc h)
 arg_sound (d.Scalar s) (Some first) byte h =
-    judged_if (same_scalar s first) (d.Scalar s) byte (λ t. (r : ScalarTy) × (d.Scalar s ≡ ty.Scalar r) × (t ≡ d.Scalar s) × (Some first ≡ Some r)) h
-    (λ is. (s, refl, refl, ap (λ (r : ScalarTy). Some r) (equal_scalars s first is)))
+    judged_if (is_of s first) (d.Scalar s) byte (λ t. (r : ScalarTy) × (d.Scalar s ≡ ty.Scalar r) × (t ≡ d.Scalar s) × (Some first ≡ Some (d.Scalar s))) h
+    (λ is. (s, refl, refl, ap (λ (u : SqlTy). Some u) (scalar_it_is s first is)))
 arg_sound (d.Row' _ row) o byte h = absurd (cc h)
 arg_sound (d.Array' _ row) o byte h = absurd (cc h)

@@ -1,6 +1,5 @@
 -- A well-formed statement is one as reading gives it.
 use Rattle.std.proofs.Common.{List, [], ◌∷◌, subst}
-use Rattle.ev_list.specs.declared.param.Param.{Param}
 use Rattle.sql_ast.specs.declared.catalog.Catalog.{Catalog}
 use Rattle.sql_ast.specs.declared.catalog.Typed.{Typed}
 use Rattle.sql_ast.specs.declared.expression.SqlExpr as e
@@ -18,14 +17,14 @@ use Rattle.sql_ast.specs.WellFormed.{Name, IsNotEmpty, IsWellFormed, HasType, Ha
 use Rattle.sql_ast.specs.WellFormed as formed
 use Rattle.sql_check.specs.Spelled.{MayBegin, IsSpelled, AreSpelled, CoresAreSpelled, FurtherAreSpelled, CoreIsSpelled, ColumnsAreSpelled, FurtherColumnsAreSpelled, FromIsSpelled, ItemsAreSpelled, ItemIsSpelled, KeysAreSpelled, KeyIsSpelled, HeldIsSpelled, FurtherCoresAreSpelled, SelectIsSpelled, StatementIsSpelled}
 
-first_begins : (catalog : Catalog) (params : List Param) (x : FromItem) (d : formed.Scope) (cs : List Typed) → ItemHas catalog params x [] d cs → MayBegin x
+first_begins : (catalog : Catalog) (params : List Typed) (x : FromItem) (d : formed.Scope) (cs : List Typed) → ItemHas catalog params x [] d cs → MayBegin x
 unfolding HasType
 first_begins catalog params (f.Table name alias) d cs h = tt
 first_begins catalog params (f.Lateral' _ cores alias) d cs h = tt
 first_begins catalog params (f.LeftLateral' _ cores alias) d cs h = absurd h.0
 first_begins catalog params (f.Unnest array alias) d cs h = tt
 
-module _ (catalog : Catalog) (params : List Param) where
+module _ (catalog : Catalog) (params : List Typed) where
   mutual
     unfolding HasType IsSpelled
 

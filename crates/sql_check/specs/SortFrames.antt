@@ -1,6 +1,5 @@
 -- The scope of columns that frames stand for.
-use Rattle.std.specs.Prelude.{List, [], ◌∷◌, Option, Some, None}
-use denote.Ref.{Bor}
+use Rattle.std.specs.Prelude.{List, [], ◌∷◌}
 use Rattle.sql_check.specs.declared.sort.Known.{Known}
 use Rattle.sql_check.specs.declared.sort.SortFrames.{SortFrames, Top, Items'}
 use Rattle.sql_check.specs.Types.{Sorts}

@@ -4,7 +4,6 @@ use denote.Ref.{Bor}
 use Rattle.std.specs.Str.{bytes_eq}
 use Rattle.ev_value.specs.declared.value.ScalarTy.{ScalarTy}
 use Rattle.ev_value.specs.declared.value.ScalarTy.TheVariants as scalar
-use Rattle.ev_list.specs.declared.param.Param.{Param}
 use Rattle.sql_ast.specs.declared.catalog.Catalog.{Catalog}
 use Rattle.sql_ast.specs.declared.catalog.Typed.{Typed}
 use Rattle.sql_ast.specs.declared.expression.BinaryOp.{BinaryOp}
@@ -29,7 +28,7 @@ use Rattle.sql_check.specs.declared.judge.Place.TheVariants as place
 use Rattle.sql_check.specs.declared.verdict.Verdict.{Verdict}
 use Rattle.sql_check.specs.declared.verdict.Verdict.TheVariants.{Has, Fails}
 use Rattle.sql_check.specs.NameLists.{beyond_option}
-use Rattle.sql_check.specs.Types.{Sorts, over, has_if, same_scalar, wanted, failing, is_of, is_scalar, is_array, type_in, with_first, sort_under, column_type, unary_verdict, binary_verdict, cast_verdict, part_verdict, case_verdict, function_verdict, verdict, core_sorts, item_sorts, types_in, types_in_item, types_in_key}
+use Rattle.sql_check.specs.Types.{Sorts, over, has_if, same_scalar, wanted, failing, is_of, is_scalar, is_array, type_in, with_first, sort_under, column_type, unary_verdict, binary_verdict, cast_verdict, part_verdict, choice_verdict, function_verdict, verdict, core_sorts, item_sorts, types_in, types_in_item, types_in_key}
 use Rattle.sql_check.specs.Walk.{start, inner, rest}
 
 -- ---- forms
@@ -67,7 +66,7 @@ unfoldable pub of_place : Place → Verdict → Verdict
 of_place p v = wanted (λ t. takes p t) v
 
 unfoldable pub of_case : Verdict → Verdict → Verdict → Verdict
-of_case condition v w = over (of_place truth condition) (λ _. over v (λ a. over w (λ b. case_verdict a b)))
+of_case condition v w = choice_verdict condition v w
 
 -- a function over a scalar, and over an array with these elements
 abbrev pub scalar_verdict : Function → ScalarTy → Verdict
@@ -130,7 +129,7 @@ behind_types ts (Some more) = Some (ts ++ more)
 
 -- ---- lists and optional forms
 
-module _ (catalog : Catalog) (params : List Param) where
+module _ (catalog : Catalog) (params : List Typed) where
   abbrev pub verdicts_of : List SqlExpr → Sorts → Option (List SqlTy)
   verdicts_of [] d = Some []
   verdicts_of (first ∷ more) d = with_first (type_in (verdict catalog params first d)) (verdicts_of more d)

@@ -3,7 +3,6 @@ use Rattle.std.specs.Prelude.{ℕ, zero, suc, ℤ, pos, Bool, true, false, ◌&&
 use Rattle.std.specs.Str.{bytes_eq}
 use Rattle.ev_value.specs.declared.value.ScalarTy.{ScalarTy}
 use Rattle.ev_value.specs.declared.value.ScalarTy.TheVariants as scalar
-use Rattle.ev_list.specs.declared.param.Param.{Param}
 use Rattle.sql_ast.specs.declared.catalog.Catalog.{Catalog}
 use Rattle.sql_ast.specs.declared.catalog.Typed.{Typed}
 use Rattle.sql_ast.specs.declared.expression.BinaryOp.{BinaryOp}
@@ -23,7 +22,7 @@ use Rattle.sql_ast.specs.declared.select.Key.{Key}
 use Rattle.sql_ast.specs.declared.select.Stmt.{Stmt}
 use Rattle.sql_ast.specs.declared.ty.SqlTy as ty
 use Rattle.sql_ast.specs.declared.ty.SqlTy.{SqlTy, Row_of-SqlTy, end_of-SqlTy, more_of-SqlTy}
-use Rattle.sql_ast.specs.Params.{params_of, type_of_param}
+use Rattle.sql_ast.specs.Params.{args_of}
 use Rattle.sql_ast.specs.Types.{INT, TEXT, BOOL, UUID}
 use Rattle.sql_ast.specs.WellFormed.{Name, alias_of, columns_under, type_under}
 use Rattle.sql_grammar.specs.declared.grown.Places.{Places}
@@ -180,9 +179,22 @@ part_verdict _ _ = Fails
 abbrev pub case_verdict : SqlTy → SqlTy → Verdict
 case_verdict a b = has_if (same_type a b) a
 
--- An ARG has a scalar type, and that of the first ARG of its name.
-abbrev pub arg_verdict : SqlTy → Option ScalarTy → Verdict
-arg_verdict (ty.Scalar s) (Some first) = has_if (same_scalar s first) (ty.Scalar s)
+-- what fails fails; else nothing is said
+abbrev pub untyped : Verdict → Verdict
+untyped (Has t) = Unjudged
+untyped Fails = Fails
+untyped Unjudged = Unjudged
+
+-- A choice by a condition of this type: where that is no truth, the branches are compared all the same, and the choice has no type.
+abbrev pub chosen_by : SqlTy → Verdict → Verdict
+chosen_by condition branches = if is_of scalar.Bool condition then branches else untyped branches
+
+abbrev pub choice_verdict : Verdict → Verdict → Verdict → Verdict
+choice_verdict condition value other = over condition (λ c. chosen_by c (over value (λ a. over other (λ b. case_verdict a b))))
+
+-- An ARG has a scalar type, and that of the first ARG of its name, whatever the type of that one is.
+abbrev pub arg_verdict : SqlTy → Option SqlTy → Verdict
+arg_verdict (ty.Scalar s) (Some first) = has_if (is_of s first) (ty.Scalar s)
 arg_verdict _ _ = Fails
 
 -- What is told at the expression itself where it has a type that its place does not take.
@@ -219,29 +231,35 @@ abbrev pub column_type : Name → Name → Sorts → Option SqlTy
 column_type alias name [] = None
 column_type alias name (k ∷ more) = if bytes_eq k.alias alias then sort_under name k.columns else column_type alias name more
 
--- the types of columns, where each has one
+-- types with one more in front, where each is there
 abbrev pub with_first : Option SqlTy → Option (List SqlTy) → Option (List SqlTy)
 with_first (Some t) (Some ts) = Some (t ∷ ts)
 with_first _ _ = None
 
-abbrev pub all_types : List Sort → Option (List SqlTy)
-all_types [] = Some []
-all_types (x ∷ more) = with_first x.ty (all_types more)
+-- the array of elements of a type, where that is known
+abbrev pub array_of : Option SqlTy → Verdict
+array_of None = Unjudged
+array_of (Some t) = Has (ty.Array t)
 
--- the array of a select is judged by the columns of its first core: there is one
-abbrev pub array_verdict : Option (List SqlTy) → Verdict
-array_verdict None = Unjudged
-array_verdict (Some (t ∷ [])) = Has (ty.Array t)
-array_verdict (Some _) = Fails
+-- the array of a select is judged by the columns of its first core: there is one, whether or not it has a type
+abbrev pub array_verdict : List Sort → Verdict
+array_verdict (x ∷ []) = array_of x.ty
+array_verdict _ = Fails
 
 abbrev pub row_verdict : Option (List SqlTy) → Verdict
 row_verdict None = Unjudged
 row_verdict (Some ts) = Has (ty.Row ts)
 
--- a core differs from the first where both have types for all columns, and not the same
-abbrev pub alike : Option (List SqlTy) → Option (List SqlTy) → Bool
-alike (Some first) (Some ts) = all_same first ts
-alike _ _ = true
+-- two columns agree where their types are the same, or one of them is not known
+abbrev pub agree : Option SqlTy → Option SqlTy → Bool
+agree (Some a) (Some b) = same_type a b
+agree _ _ = true
+
+-- a core is like the first where it has as many columns, and they agree place by place
+abbrev pub alike : List Sort → List Sort → Bool
+alike [] [] = true
+alike (x ∷ more) (y ∷ others) = agree x.ty y.ty && alike more others
+alike _ _ = false
 
 abbrev pub element_sort : Option SqlTy → List Sort
 element_sort t = record { name = codes "c1"; ty = t } ∷ []
@@ -256,8 +274,8 @@ unless_alike false byte = byte ∷ []
 
 -- ---- the verdict of each form
 
--- the statement's parameters are given by name with the type of the first ARG
-module _ (catalog : Catalog) (params : List Param) where
+-- the statement's ARGs are given in the order of the text: the first with a name says its type
+module _ (catalog : Catalog) (params : List Typed) where
   unfoldable mutual
     pub verdict : SqlExpr → Sorts → Verdict
     verdict (e.Int _) d = Has INT
@@ -266,13 +284,13 @@ module _ (catalog : Catalog) (params : List Param) where
     verdict (e.Uuid _) d = Has UUID
     verdict (e.Null t) d = Has t
     verdict (e.Column alias name) d = known (column_type alias name d)
-    verdict (e.Arg name t) d = arg_verdict t (type_of_param name params)
+    verdict (e.Arg name t) d = arg_verdict t (type_under name params)
     verdict (e.Global name) d = known (type_under name catalog.globals)
-    verdict (e.Array' _ cores) d = array_verdict (all_types (select_sorts cores d))
+    verdict (e.Array' _ cores) d = array_verdict (select_sorts cores d)
     verdict (e.Row' _ parts) d = row_verdict (verdicts parts d)
     verdict (e.Part' _ (more_of-SqlExpr row end_of-SqlExpr) z) d = over (verdict row d) (λ a. part_verdict a z)
     verdict (e.Case' _ (more_of-SqlExpr condition end_of-SqlExpr) _ (more_of-SqlExpr value end_of-SqlExpr) _ (more_of-SqlExpr other end_of-SqlExpr)) d =
-        over (wanted (is_of scalar.Bool) (verdict condition d)) (λ _. over (verdict value d) (λ a. over (verdict other d) (λ b. case_verdict a b)))
+        choice_verdict (verdict condition d) (verdict value d) (verdict other d)
     verdict (e.Cast' _ (more_of-SqlExpr operand end_of-SqlExpr) t) d = over (verdict operand d) (λ a. cast_verdict a t)
     verdict (e.Unary' operator _ (more_of-SqlExpr operand end_of-SqlExpr)) d = over (verdict operand d) (λ a. unary_verdict operator a)
     verdict (e.Binary' operator _ (more_of-SqlExpr left end_of-SqlExpr) _ (more_of-SqlExpr right end_of-SqlExpr)) d =
@@ -319,16 +337,16 @@ module _ (catalog : Catalog) (params : List Param) where
     types_in (e.Uuid n) ps d = []
     types_in (e.Null t) ps d = []
     types_in (e.Column alias name) ps d = []
-    types_in (e.Arg name t) ps d = failing (arg_verdict t (type_of_param name params)) (start ps)
+    types_in (e.Arg name t) ps d = failing (arg_verdict t (type_under name params)) (start ps)
     types_in (e.Global name) ps d = []
-    types_in (e.Array' _ cores) ps d = types_in_cores cores (inner (inner ps)) d ++ failing (array_verdict (all_types (select_sorts cores d))) (start ps)
+    types_in (e.Array' _ cores) ps d = types_in_cores cores (inner (inner ps)) d ++ failing (array_verdict (select_sorts cores d)) (start ps)
     types_in (e.Row' _ parts) ps d = types_in_all parts (inner ps) d
     types_in (e.Part' _ (more_of-SqlExpr row end_of-SqlExpr) z) ps d = types_in row (inner ps) d ++ failing (over (verdict row d) (λ a. part_verdict a z)) (start ps)
     types_in (e.Case' _ (more_of-SqlExpr condition end_of-SqlExpr) _ (more_of-SqlExpr value end_of-SqlExpr) _ (more_of-SqlExpr other end_of-SqlExpr)) ps d =
         (types_in condition (inner ps) d ++ failing (wanted (is_of scalar.Bool) (verdict condition d)) (start (inner ps))) ++
         (types_in value (rest (inner ps)) d ++
         (types_in other (rest (rest (inner ps))) d ++
-        failing (over (wanted (is_of scalar.Bool) (verdict condition d)) (λ _. over (verdict value d) (λ a. over (verdict other d) (λ b. case_verdict a b)))) (start ps)))
+        failing (choice_verdict (verdict condition d) (verdict value d) (verdict other d)) (start ps)))
     types_in (e.Cast' _ (more_of-SqlExpr operand end_of-SqlExpr) t) ps d = types_in operand (inner ps) d ++ failing (over (verdict operand d) (λ a. cast_verdict a t)) (start ps)
     types_in (e.Unary' operator _ (more_of-SqlExpr operand end_of-SqlExpr)) ps d = types_in operand (inner ps) d ++ failing (over (verdict operand d) (λ a. unary_verdict operator a)) (start ps)
     types_in (e.Binary' operator _ (more_of-SqlExpr left end_of-SqlExpr) _ (more_of-SqlExpr right end_of-SqlExpr)) ps d =
@@ -341,13 +359,13 @@ module _ (catalog : Catalog) (params : List Param) where
 
     pub types_in_cores : {m : _} → Row_of-Core m → List Places → Sorts → List ℕ
     types_in_cores end_of-Core ps d = []
-    types_in_cores (more_of-Core core more) ps d = types_in_core core ps d ++ types_in_further more (all_types (core_sorts core d)) (rest ps) d
+    types_in_cores (more_of-Core core more) ps d = types_in_core core ps d ++ types_in_further more (core_sorts core d) (rest ps) d
 
-    -- each further core has columns of the types of the first
-    pub types_in_further : {m : _} → Row_of-Core m → Option (List SqlTy) → List Places → Sorts → List ℕ
+    -- each further core is like the first
+    pub types_in_further : {m : _} → Row_of-Core m → List Sort → List Places → Sorts → List ℕ
     types_in_further end_of-Core first ps d = []
     types_in_further (more_of-Core core more) first ps d =
-        types_in_core core ps d ++ (unless_alike (alike first (all_types (core_sorts core d))) (start ps) ++ types_in_further more first (rest ps) d)
+        types_in_core core ps d ++ (unless_alike (alike first (core_sorts core d)) (start ps) ++ types_in_further more first (rest ps) d)
 
     -- the items first, since the columns see what they give; the least byte is told, so the order tells nothing
     pub types_in_core : Core → List Places → Sorts → List ℕ
@@ -395,15 +413,15 @@ module _ (catalog : Catalog) (params : List Param) where
     types_in_option None' suits ps d = []
     types_in_option (Some' _ (more_of-SqlExpr x end_of-SqlExpr)) suits ps d = types_in x ps d ++ failing (wanted suits (verdict x d)) (start ps)
 
-  abbrev pub types_in_further_list : List Core → Option (List SqlTy) → List Places → Sorts → List ℕ
+  abbrev pub types_in_further_list : List Core → List Sort → List Places → Sorts → List ℕ
   types_in_further_list [] first ps d = []
   types_in_further_list (core ∷ more) first ps d =
-      types_in_core core ps d ++ (unless_alike (alike first (all_types (core_sorts core d))) (start ps) ++ types_in_further_list more first (rest ps) d)
+      types_in_core core ps d ++ (unless_alike (alike first (core_sorts core d)) (start ps) ++ types_in_further_list more first (rest ps) d)
 
   abbrev pub types_in_list : List Core → List Places → Sorts → List ℕ
   types_in_list [] ps d = []
-  types_in_list (core ∷ more) ps d = types_in_core core ps d ++ types_in_further_list more (all_types (core_sorts core d)) (rest ps) d
+  types_in_list (core ∷ more) ps d = types_in_core core ps d ++ types_in_further_list more (core_sorts core d) (rest ps) d
 
 -- the bytes of the expressions of a statement that fail by their types
 abbrev pub type_faults : Catalog → Stmt → Places → List ℕ
-type_faults catalog s place = types_in_list catalog (params_of s) s.select.cores (parts_of place) []
+type_faults catalog s place = types_in_list catalog (args_of s) s.select.cores (parts_of place) []

@@ -10,7 +10,7 @@ use crate::sort::SortFrames;
 use crate::typing::Typing;
 use crate::walk::parts;
 use ev_value::List;
-use sql_ast::{Catalog, Stmt, params};
+use sql_ast::{Catalog, Stmt, all_args};
 use sql_grammar::Places;
 use std::alloc::{AllocError, Global};
 
@@ -72,7 +72,7 @@ pub fn failing_type(
 ) -> Result<Option<u32>, AllocError>
     ensures { IfOk result (λ found. IsLeast found (type_faults catalog.now statement.now place.now)) }
 {
-    let params = params(alloc, statement)?;
+    let params = all_args(alloc, statement)?;
     let mut found = List::new(alloc);
     let typing = Typing {
         alloc,

@@ -6,7 +6,6 @@ ghost use Rattle.sql_check.specs.TypeLists as lists;
 ghost use Rattle.sql_check.specs.Types as types;
 
 use crate::judge::typed;
-use crate::kind::copied;
 use crate::sort::{Known, Sort, SortFrames};
 use crate::verdict::Verdict;
 use ev_value::{List, Text};
@@ -84,7 +83,7 @@ fn sort_of(alloc: Global, column: &Typed) -> Result<Sort, AllocError>
     ensures { IfOk result (λ s. s ≡ lists.sort_of column.now) }
 {
     let name = column.name.copied(alloc)?;
-    let ty = copied(alloc, &column.ty)?;
+    let ty = column.ty.copied(alloc)?;
     Ok(Sort { name, ty: Some(ty) })
 }
 
@@ -158,7 +157,7 @@ fn element_of(alloc: Global, ty: &SqlTy) -> Result<Option<SqlTy>, AllocError>
         SqlTy::Scalar(_) => Ok(None),
         SqlTy::Row(_) => Ok(None),
         SqlTy::Array(element) => {
-            let element = copied(alloc, element.get())?;
+            let element = element.get().copied(alloc)?;
             Ok(Some(element))
         }
     }

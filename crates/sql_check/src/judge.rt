@@ -1,16 +1,15 @@
 //! The tables of types: what is said of a form by what is said of its parts.
 ghost use Rattle.std.specs.Prelude.{◌≡◌, IfOk, Some};
-ghost use Rattle.sql_ast.specs.Params.{type_of_param};
+ghost use Rattle.sql_ast.specs.WellFormed.{type_under};
 ghost use Rattle.sql_ast.specs.declared.ty.SqlTy.TheVariants as ty;
 ghost use Rattle.sql_check.specs.TypeLists as lists;
 ghost use Rattle.sql_check.specs.Types as types;
 
-use crate::kind::{all_same, copied, is_array, is_of, is_scalar, same, same_scalar};
+use crate::kind::{is_array, is_of, is_scalar, same, same_scalar};
 use crate::sort::Sort;
 use crate::verdict::Verdict;
-use ev_list::Param;
 use ev_value::{Boxed, List, ScalarTy, Text};
-use sql_ast::{BinaryOp, Function, SqlTy, UnaryOp};
+use sql_ast::{BinaryOp, Function, SqlTy, Typed, UnaryOp};
 use sqlite_items::at;
 use std::alloc::{AllocError, Global};
 
@@ -172,13 +171,35 @@ fn equal_branches(value: SqlTy, other: &SqlTy) -> Verdict
     }
 }
 
-/// Of a choice: its condition is a truth.
-#[tactic(auto, unfolding(crate::specs::TypeLists::of_case))]
-pub fn case(condition: Verdict, value: Verdict, other: &Verdict) -> Verdict
-    ensures { result ≡ lists.of_case condition value other.now }
+/// What fails fails; else nothing is said.
+fn untyped(verdict: Verdict) -> Verdict
+    ensures { result ≡ types.untyped verdict }
 {
-    match placed(Place::Of(ScalarTy::Bool), condition) {
-        Verdict::Has(_) => branches(value, other),
+    match verdict {
+        Verdict::Has(_) => Verdict::Unjudged,
+        Verdict::Fails => Verdict::Fails,
+        Verdict::Unjudged => Verdict::Unjudged,
+    }
+}
+
+/// Of a choice by a condition of this type, whose branches are judged so.
+fn chosen_by(condition: &SqlTy, verdict: Verdict) -> Verdict
+    ensures { result ≡ types.chosen_by condition.now verdict }
+{
+    if is_of(ScalarTy::Bool, condition) {
+        verdict
+    } else {
+        untyped(verdict)
+    }
+}
+
+/// Of a choice: its branches are compared whatever the type of its condition is, and it has a type where that is a truth.
+#[tactic(auto, unfolding(crate::specs::TypeLists::of_case))]
+pub fn case(condition: &Verdict, value: Verdict, other: &Verdict) -> Verdict
+    ensures { result ≡ lists.of_case condition.now value other.now }
+{
+    match condition {
+        Verdict::Has(condition) => chosen_by(condition, branches(value, other)),
         Verdict::Fails => Verdict::Unjudged,
         Verdict::Unjudged => Verdict::Unjudged,
     }
@@ -225,7 +246,7 @@ fn has_some(alloc: Global, ty: Option<&SqlTy>) -> Result<Verdict, AllocError>
 {
     match ty {
         Some(ty) => {
-            let ty = copied(alloc, ty)?;
+            let ty = ty.copied(alloc)?;
             Ok(Verdict::Has(ty))
         }
         None => Ok(Verdict::Fails),
@@ -282,7 +303,7 @@ pub fn part(alloc: Global, row: &Verdict, number: i64) -> Result<Verdict, AllocE
 pub fn typed(alloc: Global, ty: &SqlTy) -> Result<Verdict, AllocError>
     ensures { IfOk result (λ v. v ≡ types.known (Some ty.now)) }
 {
-    let ty = copied(alloc, ty)?;
+    let ty = ty.copied(alloc)?;
     Ok(Verdict::Has(ty))
 }
 
@@ -362,13 +383,13 @@ pub fn call(alloc: Global, called: Function, operand: &Verdict) -> Result<Verdic
     }
 }
 
-/// The type of the first parameter with a name.
-fn first_type(name: &Text, params: &[Param]) -> Option<ScalarTy>
-    ensures { result ≡ type_of_param name.now params.now }
+/// The type of the first ARG with a name.
+fn first_type<'a>(name: &Text, args: &'a [Typed]) -> Option<&'a SqlTy>
+    ensures { lists.ty_now result ≡ type_under name.now args.now }
 {
-    for param in params {
-        if param.name.as_str() == name.as_str() {
-            return Some(param.ty);
+    for arg in args {
+        if arg.name.as_str() == name.as_str() {
+            return Some(&arg.ty);
         }
     }
     None
@@ -376,12 +397,12 @@ fn first_type(name: &Text, params: &[Param]) -> Option<ScalarTy>
 
 /// Of an ARG: it has a scalar type, and that of the first ARG of its name.
 #[tactic(auto, using(crate::proofs::TyForms::arg_scalar, crate::proofs::TyForms::arg_none, crate::proofs::TyForms::arg_row, crate::proofs::TyForms::arg_array))]
-pub fn arg(ty: &SqlTy, name: &Text, params: &[Param]) -> Verdict
-    ensures { result ≡ types.arg_verdict ty.now (type_of_param name.now params.now) }
+pub fn arg(ty: &SqlTy, name: &Text, args: &[Typed]) -> Verdict
+    ensures { result ≡ types.arg_verdict ty.now (type_under name.now args.now) }
 {
     match ty {
-        SqlTy::Scalar(scalar) => match first_type(name, params) {
-            Some(first) => has_if(same_scalar(*scalar, first), *scalar),
+        SqlTy::Scalar(scalar) => match first_type(name, args) {
+            Some(first) => has_if(is_of(*scalar, first), *scalar),
             None => Verdict::Fails,
         },
         SqlTy::Row(_) => Verdict::Fails,
@@ -399,55 +420,57 @@ pub fn row(parts: Option<List<SqlTy>>) -> Verdict
     }
 }
 
-/// The types of columns, where each has one.
-#[tactic(auto, using(crate::proofs::Behind::behind_none, crate::proofs::Behind::behind_more, crate::proofs::Behind::behind_all))]
-fn types_of(alloc: Global, columns: &[Sort]) -> Result<Option<List<SqlTy>>, AllocError>
-    ensures { IfOk result (λ ts. ts ≡ types.all_types columns.now) }
+/// Of the array of elements of a type, where that is known.
+fn array_of(alloc: Global, element: &Option<SqlTy>) -> Result<Verdict, AllocError>
+    ensures { IfOk result (λ v. v ≡ types.array_of element.now) }
 {
-    let mut all = List::new(alloc);
-    for column in columns {
-        match &column.ty {
-            Some(ty) => all.push(copied(alloc, ty)?)?,
-            None => return Ok(None),
+    match element {
+        Some(element) => {
+            let element = element.copied(alloc)?;
+            Ok(Verdict::Has(SqlTy::Array(Boxed::new(alloc, element)?)))
         }
-    }
-    Ok(Some(all))
-}
-
-/// Of an array of types: there is one.
-fn array_of(alloc: Global, mut all: List<SqlTy>) -> Result<Verdict, AllocError>
-    ensures { IfOk result (λ v. v ≡ types.array_verdict (Some all)) }
-{
-    let Some(ty) = all.pop() else {
-        return Ok(Verdict::Fails);
-    };
-    if all.is_empty() {
-        let ty = Boxed::new(alloc, ty)?;
-        Ok(Verdict::Has(SqlTy::Array(ty)))
-    } else {
-        Ok(Verdict::Fails)
-    }
-}
-
-/// Of the array of a select, by the columns of its first core.
-pub fn array(alloc: Global, columns: &[Sort]) -> Result<Verdict, AllocError>
-    ensures { IfOk result (λ v. v ≡ types.array_verdict (types.all_types columns.now)) }
-{
-    match types_of(alloc, columns)? {
-        Some(all) => array_of(alloc, all),
         None => Ok(Verdict::Unjudged),
     }
 }
 
-/// Whether a core has columns of the types of the first, as far as both have types.
-pub fn alike(alloc: Global, first: &[Sort], columns: &[Sort]) -> Result<bool, AllocError>
-    ensures { IfOk result (λ b. b ≡ types.alike (types.all_types first.now) (types.all_types columns.now)) }
+/// Of the array of a select, by the columns of its first core: there is one, whether or not it has a type.
+pub fn array(alloc: Global, columns: &[Sort]) -> Result<Verdict, AllocError>
+    ensures { IfOk result (λ v. v ≡ types.array_verdict columns.now) }
 {
-    let Some(firsts) = types_of(alloc, first)? else {
-        return Ok(true);
-    };
-    let Some(others) = types_of(alloc, columns)? else {
-        return Ok(true);
-    };
-    Ok(all_same(firsts.as_slice(), others.as_slice()))
+    match columns {
+        [column] => array_of(alloc, &column.ty),
+        _ => Ok(Verdict::Fails),
+    }
+}
+
+/// Whether the types of two columns are the same, or one of them is not known.
+fn agree(a: &Option<SqlTy>, b: &Option<SqlTy>) -> bool
+    ensures { result ≡ types.agree a.now b.now }
+{
+    match a {
+        Some(a) => match b {
+            Some(b) => same(a, b),
+            None => true,
+        },
+        None => true,
+    }
+}
+
+/// Whether a core has as many columns as the first, and they agree place by place.
+pub fn alike(firsts: &[Sort], columns: &[Sort]) -> bool
+    ensures { result ≡ types.alike firsts.now columns.now }
+{
+    let mut left = columns;
+    for first in firsts {
+        match left {
+            [column, more @ ..] => {
+                if !agree(&first.ty, &column.ty) {
+                    return false;
+                }
+                left = more;
+            }
+            [] => return false,
+        }
+    }
+    left.is_empty()
 }

@@ -1,37 +1,9 @@
-//! Types copied and compared.
-ghost use Rattle.std.specs.Prelude.{◌≡◌, IfOk};
+//! Types compared.
+ghost use Rattle.std.specs.Prelude.{◌≡◌};
 ghost use Rattle.sql_check.specs.Types as types;
 
-use ev_value::{Boxed, List, ScalarTy};
+use ev_value::ScalarTy;
 use sql_ast::SqlTy;
-use std::alloc::{AllocError, Global};
-
-/// The same type, in memory of its own.
-#[cycle(copy)]
-pub fn copied(alloc: Global, ty: &SqlTy) -> Result<SqlTy, AllocError>
-    ensures { IfOk result (λ t. t ≡ ty.now) }
-{
-    match ty {
-        SqlTy::Scalar(scalar) => Ok(SqlTy::Scalar(*scalar)),
-        SqlTy::Row(parts) => Ok(SqlTy::Row(all_copied(alloc, parts.as_slice())?)),
-        SqlTy::Array(element) => {
-            let element = copied(alloc, element.get())?;
-            Ok(SqlTy::Array(Boxed::new(alloc, element)?))
-        }
-    }
-}
-
-/// The same types, in memory of their own.
-#[cycle(copy)]
-pub fn all_copied(alloc: Global, types: &[SqlTy]) -> Result<List<SqlTy>, AllocError>
-    ensures { IfOk result (λ ts. ts ≡ types.now) }
-{
-    let mut copies = List::new(alloc);
-    for ty in types {
-        copies.push(copied(alloc, ty)?)?;
-    }
-    Ok(copies)
-}
 
 /// Whether two scalar types are the same.
 pub fn same_scalar(a: ScalarTy, b: ScalarTy) -> bool

@@ -130,7 +130,7 @@ impl<'a> Typing<'a> {
         self.judged(whole, places, scope, found)
     }
 
-    /// A condition that is no truth is told at itself, and its choice is then not judged.
+    /// A condition that is no truth is told at itself, and branches that differ at the choice.
     #[cycle(types)]
     fn case_faults(
         &self,
@@ -189,7 +189,7 @@ impl<'a> Typing<'a> {
         Ok(())
     }
 
-    /// The cores of a select, which have columns of the types of the first.
+    /// The cores of a select, each of which is like the first.
     #[cycle(types)]
     #[tactic(auto, using(crate::proofs::FaultForms::list_is))]
     pub fn cores(
@@ -214,7 +214,7 @@ impl<'a> Typing<'a> {
         scope: &SortFrames<'_>,
         found: &mut List<u32>,
     ) -> Result<(), AllocError>
-        ensures { OnOk result (found.new ≡ found.old ++ types.types_in_further_list self.now.catalog.now self.now.params.now cores.now (types.all_types first.now) places.now (sorts scope.now)) }
+        ensures { OnOk result (found.new ≡ found.old ++ types.types_in_further_list self.now.catalog.now self.now.params.now cores.now first.now places.now (sorts scope.now)) }
     {
         let mut left = places;
         for core in cores {
@@ -233,13 +233,13 @@ impl<'a> Typing<'a> {
         scope: &SortFrames<'_>,
         found: &mut List<u32>,
     ) -> Result<(), AllocError>
-        ensures { OnOk result (found.new ≡ found.old ++ (types.types_in_core self.now.catalog.now self.now.params.now core.now places.now (sorts scope.now) ++ types.unless_alike (types.alike (types.all_types first.now) (types.all_types (types.core_sorts self.now.catalog.now self.now.params.now core.now (sorts scope.now)))) (walk.start places.now))) }
+        ensures { OnOk result (found.new ≡ found.old ++ (types.types_in_core self.now.catalog.now self.now.params.now core.now places.now (sorts scope.now) ++ types.unless_alike (types.alike first.now (types.core_sorts self.now.catalog.now self.now.params.now core.now (sorts scope.now))) (walk.start places.now))) }
     {
         self.faults(core, places, scope, found)?;
         self.likened(core, first, places, scope, found)
     }
 
-    /// Adds the byte of a core whose columns have not the types of the first core's.
+    /// Adds the byte of a core that is not like the first.
     fn likened(
         &self,
         core: &Core,
@@ -248,10 +248,10 @@ impl<'a> Typing<'a> {
         scope: &SortFrames<'_>,
         found: &mut List<u32>,
     ) -> Result<(), AllocError>
-        ensures { OnOk result (found.new ≡ found.old ++ types.unless_alike (types.alike (types.all_types first.now) (types.all_types (types.core_sorts self.now.catalog.now self.now.params.now core.now (sorts scope.now)))) (walk.start places.now)) }
+        ensures { OnOk result (found.new ≡ found.old ++ types.unless_alike (types.alike first.now (types.core_sorts self.now.catalog.now self.now.params.now core.now (sorts scope.now))) (walk.start places.now)) }
     {
         let columns = self.core(core, scope)?;
-        let same = alike(self.alloc, first, columns.as_slice())?;
+        let same = alike(first, columns.as_slice());
         note(same, start(places), found)
     }
 

@@ -9,9 +9,10 @@ use crate::judge;
 use crate::scope::alias;
 use crate::sort::{Known, Sort, SortFrames};
 use crate::verdict::Verdict;
-use ev_list::Param;
 use ev_value::{List, ScalarTy, Text};
-use sql_ast::{Binary, Case, Catalog, Column, Core, FromItem, Function, SqlExpr, SqlTy, UnaryOp};
+use sql_ast::{
+    Binary, Case, Catalog, Column, Core, FromItem, Function, SqlExpr, SqlTy, Typed, UnaryOp,
+};
 use std::alloc::{AllocError, Global};
 
 /// What types stand on.
@@ -19,8 +20,8 @@ use std::alloc::{AllocError, Global};
 pub struct Typing<'a> {
     pub alloc: Global,
     pub catalog: &'a Catalog,
-    /// Each ARG's name with the type of the first of that name.
-    pub params: &'a [Param],
+    /// The statement's ARGs in the order of the text: the first with a name says its type.
+    pub params: &'a [Typed],
 }
 
 impl<'a> Typing<'a> {
@@ -52,7 +53,7 @@ impl<'a> Typing<'a> {
 
     #[cycle(typing)]
     fn array(&self, cores: &[Core], scope: &SortFrames<'_>) -> Result<Verdict, AllocError>
-        ensures { IfOk result (λ v. v ≡ types.array_verdict (types.all_types (lists.sorts_of_cores self.now.catalog.now self.now.params.now cores.now (sorts scope.now)))) }
+        ensures { IfOk result (λ v. v ≡ types.array_verdict (lists.sorts_of_cores self.now.catalog.now self.now.params.now cores.now (sorts scope.now))) }
     {
         let columns = self.select(cores, scope)?;
         judge::array(self.alloc, columns.as_slice())
@@ -86,7 +87,7 @@ impl<'a> Typing<'a> {
         let condition = self.verdict(form.condition.get(), scope)?;
         let value = self.verdict(form.value.get(), scope)?;
         let other = self.verdict(form.other.get(), scope)?;
-        Ok(judge::case(condition, value, &other))
+        Ok(judge::case(&condition, value, &other))
     }
 
     #[cycle(typing)]

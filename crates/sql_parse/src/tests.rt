@@ -52,7 +52,7 @@ fn told(alloc: Global, text: &str, catalog: &Catalog) -> Outcome {
     }
 }
 
-static ROWS: [(&str, Outcome); 43] = [
+static ROWS: [(&str, Outcome); 48] = [
     (
         "SELECT \"t\".\"x\" AS \"a\" FROM \"t\" AS \"t\"",
         Outcome::Statement,
@@ -86,6 +86,10 @@ static ROWS: [(&str, Outcome); 43] = [
     ("SELECT (1 + 2) + 'a' AS \"a\"", Outcome::Q3(7)),
     (
         "SELECT CASE WHEN 1 THEN 2 ELSE 'a' END AS \"a\"",
+        Outcome::Q3(7),
+    ),
+    (
+        "SELECT CASE WHEN 1 THEN 2 ELSE 3 END || 'a' AS \"a\"",
         Outcome::Q3(17),
     ),
     (
@@ -131,6 +135,22 @@ static ROWS: [(&str, Outcome); 43] = [
     (
         "SELECT 1 AS \"a\" UNION ALL SELECT 1 AS \"b\", 2 AS \"c\"",
         Outcome::Q3(26),
+    ),
+    (
+        "SELECT 1 AS \"a\" UNION ALL SELECT 1 + 'a' AS \"b\", 2 AS \"c\"",
+        Outcome::Q3(26),
+    ),
+    (
+        "SELECT 1 AS \"a\", 2 AS \"b\" UNION ALL SELECT 'x' AS \"a\", 1 + 'a' AS \"b\"",
+        Outcome::Q3(36),
+    ),
+    (
+        "SELECT ARRAY(SELECT 1 + 'a' AS \"a\", 2 AS \"b\") AS \"c\"",
+        Outcome::Q3(7),
+    ),
+    (
+        "SELECT \"l\".\"b\" || 'a' AS \"a\", ARG('p', ROW()) AS \"b\" FROM LATERAL (SELECT ARG('p', INT) AS \"b\") AS \"l\"",
+        Outcome::Q3(30),
     ),
     (
         "SELECT SUM_OF(ARRAY(SELECT TRUE AS \"b\")) AS \"a\"",

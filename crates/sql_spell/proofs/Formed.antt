@@ -16,7 +16,6 @@ use Rattle.sql_lex.specs.declared.token.TokenKind.TheVariants as kind
 use Rattle.sql_ast.specs.declared.ty.SqlTy as t
 use Rattle.sql_ast.specs.declared.ty.SqlTy.{SqlTy, Row_of-SqlTy, end_of-SqlTy, more_of-SqlTy}
 use Rattle.sql_print.specs.Promise.{IsWritable, AreWritable}
-use Rattle.ev_list.specs.declared.param.Param.{Param}
 use Rattle.sql_lex.specs.declared.keyword.Keyword.TheVariants as keyword
 use Rattle.sql_lex.specs.declared.token.Sign.TheVariants as sign
 use Rattle.sql_ast.specs.declared.catalog.Catalog.{Catalog}
@@ -116,7 +115,7 @@ mark_good op.Mod = tt
 
 -- ---- what a type tells of an expression
 
-module _ (catalog : Catalog) (params : List Param) where
+module _ (catalog : Catalog) (params : List Typed) where
   mutual
     unfolding HasType HasForm tokens_of_expr Fits
 

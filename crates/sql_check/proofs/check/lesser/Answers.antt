@@ -1,4 +1,4 @@
-use Rattle.std.proofs.Common.{◌≡◌, Some, subst, arith}
+use Rattle.std.proofs.Common.{subst, arith}
 use Rattle.sql_check.specs.Walk.{IsLeast}
 use Rattle.sql_check.proofs.Least.{lesser_byte, kept_byte}
 use Rattle.sql_check.proofs.check.lesser.Goals as goal

@@ -1,4 +1,4 @@
-use Rattle.std.proofs.Common.{◌≡◌, ◌∙◌}
+use Rattle.std.proofs.Common.{◌∙◌}
 use Rattle.sql_check.proofs.PlaceForms.{parts_value}
 use Rattle.sql_check.proofs.walk.parts.Goals as goal
 

@@ -1,4 +1,4 @@
-use Rattle.std.proofs.Common.{◌≡◌, ◌++◌, drop, sym, ap, ◌∙◌}
+use Rattle.std.proofs.Common.{drop, ap, ◌∙◌}
 use Rattle.sql_check.specs.Frames.{entries}
 use Rattle.sql_check.specs.Names.{names_in, names_in_core}
 use Rattle.sql_check.proofs.NameForms.{no_names, of_int, of_text, of_bool, of_uuid, of_null, of_arg, of_all, of_distinct, core_names}

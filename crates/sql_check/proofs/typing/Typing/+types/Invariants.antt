@@ -8,7 +8,7 @@ abbrev pub invariant-exprs-loop-expr : goal.invariant-exprs-loop-expr
 invariant-exprs-loop-expr l = l.found ++ lists.types_in_exprs l.self.catalog.now l.self.params.now (drop l.expr-index l.exprs) l.left (sorts l.scope) ≡ l.fn.found ++ lists.types_in_exprs l.self.catalog.now l.self.params.now l.exprs l.places (sorts l.scope)
 
 abbrev pub invariant-further-loop-core : goal.invariant-further-loop-core
-invariant-further-loop-core l = l.found ++ types.types_in_further_list l.self.catalog.now l.self.params.now (drop l.core-index l.cores) (types.all_types l.first) l.left (sorts l.scope) ≡ l.fn.found ++ types.types_in_further_list l.self.catalog.now l.self.params.now l.cores (types.all_types l.first) l.places (sorts l.scope)
+invariant-further-loop-core l = l.found ++ types.types_in_further_list l.self.catalog.now l.self.params.now (drop l.core-index l.cores) l.first l.left (sorts l.scope) ≡ l.fn.found ++ types.types_in_further_list l.self.catalog.now l.self.params.now l.cores l.first l.places (sorts l.scope)
 
 abbrev pub invariant-columns_faults-loop-column : goal.invariant-columns_faults-loop-column
 invariant-columns_faults-loop-column l = l.found ++ lists.types_in_column_list l.self.catalog.now l.self.params.now (drop l.column-index l.columns) l.left (sorts l.scope) ≡ l.fn.found ++ lists.types_in_column_list l.self.catalog.now l.self.params.now l.columns l.places (sorts l.scope)
