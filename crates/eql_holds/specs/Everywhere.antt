@@ -71,29 +71,34 @@ module _ (w : World) (OfPart OfScope : Expr → Says) where
     Inside (e.Param _ p) ns b = Unit {0}
     Inside (e.Global _ n) ns b = Unit {0}
     Inside (e.Path _ o) ns b = Unit {0}
-    Inside (e.OnBase' _ _ _ base o) ns b = Unit {0}
+    Inside (e.OnBase' _ _ _ _ base o) ns b = Unit {0}
     Inside (e.Operation' _ op _ operands) ns b = InParts operands ns b
     Inside (e.Plus' _ _ operand) ns b = InParts operand ns b
     Inside (e.Cast' _ ty _ operand) ns b = InParts operand ns b
     Inside (e.Tuple' _ _ parts) ns b = InParts parts ns b
     Inside (e.OptionalEqual' _ negated _ left _ right) ns b = InParts left ns b × InParts right ns b
-    Inside (e.In' _ negated _ left _ _ set) ns b = InParts left ns b × InScopes set ns b
-    Inside (e.OfSet' _ f _ _ set) ns b = InScopes set ns b
-    Inside (e.Union' _ _ _ left _ _ right) ns b = InScopes left ns b × InScopes right ns b
+    Inside (e.In' _ negated _ left _ _ _ set) ns b = InParts left ns b × InScopes set ns b
+    Inside (e.OfSet' _ f _ _ _ set) ns b = InScopes set ns b
+    Inside (e.Union' _ _ _ _ left _ _ _ right) ns b = InScopes left ns b × InScopes right ns b
     Inside (e.Set' _ _ elements) ns b = InElementsOfSet elements ns b
-    Inside (e.Coalesce' _ _ first _ _ second) ns b = InParts first ns b × InScopes second ns b
-    Inside (e.If' _ _ _ c _ _ value _ _ other) ns b = InParts c ns b × InScopes value ns b × InScopes other ns b
-    Inside (e.Shaped' _ _ (more_of-Expr x end_of-Expr) k _ elements) ns b =
+    Inside (e.Coalesce' _ _ first _ _ _ second) ns b = InParts first ns b × InScopes second ns b
+    Inside (e.If' _ _ _ c _ _ _ value _ _ _ other) ns b = InParts c ns b × InScopes value ns b × InScopes other ns b
+    Inside (e.Shaped' _ _ (more_of-Expr x end_of-Expr) _ k _ elements) ns b =
         OfPart x ns b × Inside x ns b × EachValue (λ i. InElements elements (name.Prefix (subject k) ∷ ns) (bound.One i.value ∷ b)) (items w x ns b)
-    Inside (e.Select' _ _ aliases (Select' _ (more_of-Expr x end_of-Expr) k filter _ keys offset limit)) ns b =
+    Inside (e.Select' _ _ aliases (Select' _ (more_of-Expr x end_of-Expr) _ k filter _ keys offset limit)) ns b =
         WithAliases aliases (λ ms a.
         let fs = factored (direct x false) (all x ++ all_of_clause filter ++ all_of_keys keys) (paths_of ms) in
         InClause offset ms a × InClause limit ms a
         × Extended x fs (OnBases x) (λ ns' b'. Inside x ns' b' × EachValue (λ i. AtRow (InClause filter) (InKeys keys) (name.Prefix (subject k) ∷ ns') (bound.One i.value ∷ b')) (items w x ns' b')) ms a) ns b
-    Inside (e.For' _ _ aliases k _ _ (more_of-Expr x end_of-Expr) _ _ (more_of-Expr y end_of-Expr)) ns b =
+    Inside (e.For' _ _ aliases k _ _ _ (more_of-Expr x end_of-Expr) _ _ _ (more_of-Expr y end_of-Expr)) ns b =
         WithAliases aliases (λ ms a.
         AtScope x (OnBases x) (Inside x) ms a
         × EachValue (λ v. AtScope y (OnBases y) (Inside y) (name.Prefix (variable k) ∷ ms) (bound.One v ∷ a)) (values_in w x ms a)) ns b
+    Inside (e.Array' _ _ _ elements) ns b = InParts elements ns b
+    Inside (e.ArrayCast' _ _ _ operand) ns b = InParts operand ns b
+    Inside (e.Unpack' _ _ operand) ns b = InParts operand ns b
+    Inside (e.EmptySet _ _) ns b = Unit {0}
+    Inside (e.Unfit' _ _ _ _ parts) ns b = InParts parts ns b
 
     -- each of several parts, and what stands inside it
     pub InParts : {m : _} → Row_of-Expr m → Says
@@ -107,11 +112,11 @@ module _ (w : World) (OfPart OfScope : Expr → Says) where
 
     pub InElementsOfSet : {m : _} → Row_of-Scope m → Says
     InElementsOfSet end_of-Scope ns b = Unit {0}
-    InElementsOfSet (more_of-Scope _ _ body rest) ns b = InScopes body ns b × InElementsOfSet rest ns b
+    InElementsOfSet (more_of-Scope _ _ _ body rest) ns b = InScopes body ns b × InElementsOfSet rest ns b
 
     pub InElements : {m : _} → Row_of-Element m → Says
     InElements end_of-Element ns b = Unit {0}
-    InElements (more_of-Element _ n _ _ _ _ _ _ body rest) ns b = InScopes body ns b × InElements rest ns b
+    InElements (more_of-Element _ n _ _ _ _ _ _ _ body rest) ns b = InScopes body ns b × InElements rest ns b
 
     -- an offset, a limit or a condition, which may be absent
     pub InClause : Held-Select-filter → Says
@@ -123,28 +128,32 @@ module _ (w : World) (OfPart OfScope : Expr → Says) where
     InKeys (more_of-Key k rest) ns b = InKey k ns b × InKeys rest ns b
 
     pub InKey : key.Key → Says
-    InKey (key.Ascending' _ _ _ body) ns b = InScopes body ns b
-    InKey (key.Descending' _ _ _ body) ns b = InScopes body ns b
+    InKey (key.Ascending' _ _ _ _ body) ns b = InScopes body ns b
+    InKey (key.Descending' _ _ _ _ body) ns b = InScopes body ns b
 
     -- each alias in turn, and what stands behind them where their lists are known
     pub WithAliases : {m : _} → Row_of-Alias m → Says → Says
     WithAliases end_of-Alias says ns b = says ns b
-    WithAliases (more_of-Alias k _ _ (more_of-Expr x end_of-Expr) rest) says ns b =
+    WithAliases (more_of-Alias k _ _ _ (more_of-Expr x end_of-Expr) rest) says ns b =
         AtScope x (OnBases x) (Inside x) ns b
         × ((vs : List Val) → values_in w x ns b ≡ all_of vs → WithAliases rest says (name.Alias k ∷ ns) (bound.Listed vs ∷ b))
 
     -- the base expressions of a scope, by their numbers
     pub OnBases : Expr → List (ℕ × Says)
-    OnBases (e.OnBase' _ _ _ (more_of-Expr x end_of-Expr) o) = (base_number o.path.root, AtScope x (OnBases x) (Inside x)) ∷ []
+    OnBases (e.OnBase' _ _ _ _ (more_of-Expr x end_of-Expr) o) = (base_number o.path.root, AtScope x (OnBases x) (Inside x)) ∷ []
     OnBases (e.Operation' _ _ _ operands) = OnBasesOf operands
     OnBases (e.Plus' _ _ operand) = OnBasesOf operand
     OnBases (e.Cast' _ _ _ operand) = OnBasesOf operand
     OnBases (e.Tuple' _ _ parts) = OnBasesOf parts
     OnBases (e.OptionalEqual' _ _ _ left _ right) = OnBasesOf left ++ OnBasesOf right
-    OnBases (e.In' _ _ _ left _ _ set) = OnBasesOf left
-    OnBases (e.Coalesce' _ _ first _ _ second) = OnBasesOf first
-    OnBases (e.If' _ _ _ c _ _ value _ _ other) = OnBasesOf c
-    OnBases (e.Shaped' _ _ x _ _ elements) = OnBasesOf x
+    OnBases (e.In' _ _ _ left _ _ _ set) = OnBasesOf left
+    OnBases (e.Coalesce' _ _ first _ _ _ second) = OnBasesOf first
+    OnBases (e.If' _ _ _ c _ _ _ value _ _ _ other) = OnBasesOf c
+    OnBases (e.Shaped' _ _ x _ _ _ elements) = OnBasesOf x
+    OnBases (e.Array' _ _ _ elements) = OnBasesOf elements
+    OnBases (e.ArrayCast' _ _ _ operand) = OnBasesOf operand
+    OnBases (e.Unpack' _ _ operand) = OnBasesOf operand
+    OnBases (e.Unfit' _ _ _ _ parts) = OnBasesOf parts
     OnBases _ = []
 
     pub OnBasesOf : {m : _} → Row_of-Expr m → List (ℕ × Says)
