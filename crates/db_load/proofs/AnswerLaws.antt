@@ -1,15 +1,15 @@
 -- An answer that is one, or want of memory, and what follows it.
 use Rattle.std.proofs.Common.{◌≡◌, ℕ, Bool, List, Option, Result, Ok, Err, ◌⊎◌, inl, inr, sym, ap, ◌∙◌, rules, refl, subst}
 use Rattle.ev_value.specs.declared.args.Argument.{Argument}
-use Rattle.args_load.specs.Load.{IsAnswer, told}
+use Rattle.db_load.specs.Arguments.{IsAnswer, told}
 use Rattle.serde_json.specs.Data.{Data, Members, member}
 use Rattle.db_draft.specs.declared.draft.Plain.{Plain}
-use Rattle.json_draft.specs.Drafts.{plain_of}
-use Rattle.args_load.specs.Values.{and_then, argument, arguments, ty_of}
-use Rattle.args_load.specs.declared.names.Wanted.{Wanted}
-use Rattle.args_load.specs.declared.refusal.ArgsRefusal.{ArgsRefusal}
-use Rattle.args_load.specs.declared.refusal.ArgsRefusal.TheVariants as refusal
-use Rattle.args_load.specs.declared.refusal.BrokenArgs.{BrokenArgs}
+use Rattle.db_load.specs.Drafts.{plain_of}
+use Rattle.db_load.specs.ArgumentValues.{and_then, argument, arguments, ty_of}
+use Rattle.db_load.specs.declared.argument_names.Wanted.{Wanted}
+use Rattle.db_load.specs.declared.refusal.ArgsRefusal.{ArgsRefusal}
+use Rattle.db_load.specs.declared.refusal.ArgsRefusal.TheVariants as refusal
+use Rattle.db_load.specs.declared.refusal.BrokenArgs.{BrokenArgs}
 
 ok_not_err : {A E : Type 0} (a : A) (e : E) → ◌≡◌ {A = Result A E} (Ok a) (Err e) → ⊥
 ok_not_err a e is = search rules

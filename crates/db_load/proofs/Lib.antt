@@ -1,1 +1,3 @@
+pub mod MemberLaws
+pub mod AnswerLaws
 pub mod Loaded

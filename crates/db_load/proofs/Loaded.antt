@@ -9,8 +9,8 @@ use Rattle.db_check.specs.Check.{checked}
 use Rattle.db_check.specs.Laws.{IsWellFormedSchema}
 use Rattle.db_check.specs.declared.store.Store.{Store}
 use Rattle.db_check.proofs.StoreLaws.{all_fit}
-use Rattle.json_draft.specs.Form.{document}
-use Rattle.db_load.specs.Load.{stored}
+use Rattle.db_load.specs.Document.{document}
+use Rattle.db_load.specs.Data.{stored}
 use Rattle.db_load.specs.Laws.{LoadedObjectsFit}
 
 told_ok : (r : Result Store Broken) (st : Store) → Ok st ≡ told r → r ≡ Ok st

@@ -10,7 +10,7 @@ use Rattle.serde_json.specs.Find.{get_member}
 use Rattle.serde_json.specs.View.{view, members_view}
 use Rattle.serde_json.specs.declared.value.Value.{Value}
 use Rattle.serde_json.proofs.Views.{view-lookup}
-use Rattle.json_draft.specs.Form.{count, is_format, objects_in, document_in}
+use Rattle.db_load.specs.Document.{count, is_format, objects_in, document_in}
 
 -- a look-up finds the member
 pub found : (name : List ℕ) (es : List (String Global × Value)) (r : Option Value)

@@ -10,11 +10,11 @@ use Rattle.ev_schema.specs.declared.types.GlobalInfo.{GlobalInfo}
 use Rattle.db_draft.specs.Values.{value_of}
 use Rattle.db_draft.specs.declared.draft.Plain.{Plain}
 use Rattle.db_draft.specs.declared.draft.Plain.TheVariants as plain
-use Rattle.json_draft.specs.Drafts.{plain_of}
-use Rattle.args_load.specs.declared.refusal.ArgsRule.{ArgsRule}
-use Rattle.args_load.specs.declared.refusal.ArgsRule.TheVariants as rule
-use Rattle.args_load.specs.declared.refusal.BrokenArgs.{BrokenArgs}
-use Rattle.args_load.specs.declared.names.Wanted.{Wanted}
+use Rattle.db_load.specs.Drafts.{plain_of}
+use Rattle.db_load.specs.declared.refusal.ArgsRule.{ArgsRule}
+use Rattle.db_load.specs.declared.refusal.ArgsRule.TheVariants as rule
+use Rattle.db_load.specs.declared.refusal.BrokenArgs.{BrokenArgs}
+use Rattle.db_load.specs.declared.argument_names.Wanted.{Wanted}
 
 -- the names that may have values, with their types
 abbrev pub wanted_globals : List GlobalInfo → List Wanted

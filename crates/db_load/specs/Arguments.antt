@@ -9,13 +9,13 @@ use Rattle.ev_value.specs.declared.args.Args.{Args}
 use Rattle.ev_value.specs.declared.args.Argument.{Argument}
 use Rattle.ev_list.specs.declared.param.Param.{Param}
 use Rattle.ev_schema.specs.declared.schema.Schema.{Schema}
-use Rattle.json_draft.specs.Text.{Says}
-use Rattle.args_load.specs.declared.refusal.ArgsRefusal.{ArgsRefusal}
-use Rattle.args_load.specs.declared.refusal.ArgsRefusal.TheVariants as refusal
-use Rattle.args_load.specs.declared.refusal.ArgsRule.TheVariants as rule
-use Rattle.args_load.specs.declared.refusal.BrokenArgs.{BrokenArgs}
-use Rattle.args_load.specs.Sections.{Sections, sections}
-use Rattle.args_load.specs.Values.{wanted_globals, wanted_params, at_name, arguments}
+use Rattle.db_load.specs.Text.{Says}
+use Rattle.db_load.specs.declared.refusal.ArgsRefusal.{ArgsRefusal}
+use Rattle.db_load.specs.declared.refusal.ArgsRefusal.TheVariants as refusal
+use Rattle.db_load.specs.declared.refusal.ArgsRule.TheVariants as rule
+use Rattle.db_load.specs.declared.refusal.BrokenArgs.{BrokenArgs}
+use Rattle.db_load.specs.Sections.{Sections, sections}
+use Rattle.db_load.specs.ArgumentValues.{wanted_globals, wanted_params, at_name, arguments}
 
 -- whether a parameter has an argument or needs none
 abbrev pub is_given : List Argument → Param → Bool

@@ -10,8 +10,8 @@ use Rattle.db_draft.specs.declared.refusal.Rule.{Rule}
 use Rattle.db_draft.specs.declared.refusal.Rule.TheVariants as rule
 use Rattle.db_check.specs.Check.{checked}
 use Rattle.db_check.specs.declared.store.Store.{Store}
-use Rattle.json_draft.specs.Form.{document}
-use Rattle.json_draft.specs.Text.{Says}
+use Rattle.db_load.specs.Document.{document}
+use Rattle.db_load.specs.Text.{Says}
 
 -- a rule on the text as a whole that fails
 abbrev pub at_text : Rule → DataRefusal

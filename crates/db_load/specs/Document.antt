@@ -3,7 +3,7 @@ use Rattle.std.specs.Prelude.{ℕ, suc, ◌==◌, Bool, false, List, [], ◌∷�
 use Rattle.serde_json.specs.Data.{unsigned, Data, null, boolean, number, string, array, object, Items, no_items, item, Members, no_members, member}
 use Rattle.serde_json.specs.Find.{get_member}
 use Rattle.db_draft.specs.declared.draft.ObjectDraft.{ObjectDraft}
-use Rattle.json_draft.specs.Drafts.{object_of}
+use Rattle.db_load.specs.Drafts.{object_of}
 
 -- the drafts of an array's objects behind others, if each element is an object
 abbrev pub drafts_of : List ObjectDraft → Items → Option (List ObjectDraft)

@@ -4,7 +4,7 @@ use Rattle.ev_schema.specs.declared.schema.Schema.{Schema}
 use Rattle.db_store.specs.Fits.{Fits}
 use Rattle.db_check.specs.Laws.{IsWellFormedSchema}
 use Rattle.db_check.specs.declared.store.Store.{Store}
-use Rattle.db_load.specs.Load.{IsLoaded}
+use Rattle.db_load.specs.Data.{IsLoaded}
 
 -- the objects that are loaded from a text fit the schema
 abbrev pub LoadedObjectsFit : Type 0

@@ -1,2 +1,9 @@
-pub mod Load
+pub mod Drafts
+pub mod Document
+pub mod Text
+pub mod Sections
+pub mod ArgumentValues
+pub mod Arguments
+pub mod Views
+pub mod Data
 pub mod Laws

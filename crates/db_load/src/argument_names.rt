@@ -1,6 +1,6 @@
 //! The names that may have values.
 ghost use Rattle.std.specs.Prelude.{◌≡◌, IfOk};
-ghost use Rattle.args_load.specs.Values.{wanted_globals as wanted_globals_of, wanted_params as wanted_params_of, ty_of as ty_of_name};
+ghost use Rattle.db_load.specs.ArgumentValues.{wanted_globals as wanted_globals_of, wanted_params as wanted_params_of, ty_of as ty_of_name};
 
 use ev_list::Param;
 use ev_schema::GlobalInfo;

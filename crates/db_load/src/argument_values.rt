@@ -2,14 +2,14 @@
 ghost use Rattle.std.specs.Prelude.{◌≡◌, []};
 ghost use Rattle.serde_json.specs.View.{members_view};
 ghost use Rattle.db_draft.specs.Values.{value_of as value_by};
-ghost use Rattle.args_load.specs.Values.{ty_of as ty_of_name, typed as typed_by, valued as valued_by, argument as argument_of, arguments as arguments_of, at_name as broken_at};
-ghost use Rattle.args_load.specs.Load.{IsAnswer};
+ghost use Rattle.db_load.specs.ArgumentValues.{ty_of as ty_of_name, typed as typed_by, valued as valued_by, argument as argument_of, arguments as arguments_of, at_name as broken_at};
+ghost use Rattle.db_load.specs.Arguments.{IsAnswer};
 
-use crate::names::{Wanted, ty_of};
+use crate::argument_names::{Wanted, ty_of};
+use crate::drafts::plain_of;
 use crate::refusal::{ArgsRefusal, ArgsRule, BrokenArgs};
 use db_draft::{Plain, value_of};
 use ev_value::{Argument, List, ScalarTy, Text};
-use json_draft::plain_of;
 use serde_json::{Map, Value};
 use std::alloc::Global;
 

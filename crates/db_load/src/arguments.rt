@@ -3,18 +3,18 @@ ghost use Rattle.std.specs.Prelude.{◌≡◌, None, Some, option_map};
 ghost use Rattle.std.specs.List.{list_any};
 ghost use Rattle.std.specs.Option.{option_copied};
 ghost use Rattle.serde_json.specs.View.{view, members_view};
-ghost use Rattle.args_load.specs.Views.{seen};
-ghost use Rattle.args_load.specs.Load.{is_given as is_given_param, lesser as lesser_of, least_absent as least_absent_of, complete as complete_of, globals_of, params_of, with_params, args_in as args_in_sections, ill_formed as ill_formed_text, IsLoaded, IsAnswer};
+ghost use Rattle.db_load.specs.Views.{seen};
+ghost use Rattle.db_load.specs.Arguments.{is_given as is_given_param, lesser as lesser_of, least_absent as least_absent_of, complete as complete_of, globals_of, params_of, with_params, args_in as args_in_sections, ill_formed as ill_formed_text, IsLoaded, IsAnswer};
 ghost use Rattle.std.specs.Str.{bytes_eq};
 
-use crate::form::{Sections, sections_of};
-use crate::names::{wanted_globals, wanted_params};
+use crate::argument_names::{wanted_globals, wanted_params};
+use crate::argument_values::{arguments, at_name};
 use crate::refusal::{ArgsRefusal, ArgsRule, BrokenArgs};
-use crate::values::{arguments, at_name};
+use crate::sections::{Sections, sections_of};
+use crate::text::{TextError, value_of};
 use ev_list::Param;
 use ev_schema::Schema;
 use ev_value::{Args, Argument, List, Text};
-use json_draft::{TextError, value_of};
 use serde_json::{Map, Value};
 use std::alloc::Global;
 

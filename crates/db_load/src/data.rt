@@ -2,13 +2,14 @@
 ghost use Rattle.std.specs.Prelude.{◌≡◌, ◌<◌, ◌^◌, length};
 ghost use Rattle.serde_json.specs.View.{view};
 ghost use Rattle.db_draft.specs.Told.{IsAnswer};
-ghost use Rattle.json_draft.specs.Form.{document as document_of_data};
-ghost use Rattle.db_load.specs.Load.{IsLoaded, stored, at_text as refused_at_text};
+ghost use Rattle.db_load.specs.Document.{document as document_of_data};
+ghost use Rattle.db_load.specs.Data.{IsLoaded, stored, at_text as refused_at_text};
 
+use crate::document::document;
+use crate::text::{TextError, value_of};
 use db_check::{Store, check};
 use db_draft::{Broken, DataRefusal, Rule};
 use ev_schema::Schema;
-use json_draft::{TextError, document, value_of};
 use serde_json::Value;
 use std::alloc::Global;
 

@@ -3,7 +3,7 @@ ghost use Rattle.std.specs.Prelude.{◌≡◌, [], codes, option_map, Some, IfOk
 ghost use Rattle.std.specs.Option.{option_copied};
 ghost use Rattle.serde_json.specs.Find.{get_member};
 ghost use Rattle.serde_json.specs.View.{view, items_view, members_view};
-ghost use Rattle.json_draft.specs.Form.{drafts_of as drafts_of_items, is_format as is_format_data, objects_in as objects_in_data, document_in as document_in_members, document as document_of_data};
+ghost use Rattle.db_load.specs.Document.{drafts_of as drafts_of_items, is_format as is_format_data, objects_in as objects_in_data, document_in as document_in_members, document as document_of_data};
 
 use crate::drafts::object_of;
 use db_draft::ObjectDraft;

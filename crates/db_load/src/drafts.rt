@@ -2,7 +2,7 @@
 ghost use Rattle.std.specs.Prelude.{◌≡◌, IfOk, string_bytes};
 ghost use Rattle.serde_json.specs.View.{view, items_view, members_view, number_view};
 ghost use Rattle.serde_json.specs.Find.{as_i64};
-ghost use Rattle.json_draft.specs.Drafts.{integer_of, plain_of as plain_of_data, fields_of as fields_of_members, element_of as element_of_data, elements_of as elements_of_items, draft_of as draft_of_data, pointer_of as pointer_of_key, object_of as object_of_members};
+ghost use Rattle.db_load.specs.Drafts.{integer_of, plain_of as plain_of_data, fields_of as fields_of_members, element_of as element_of_data, elements_of as elements_of_items, draft_of as draft_of_data, pointer_of as pointer_of_key, object_of as object_of_members};
 
 use db_draft::{Draft, Element, Field, Member, ObjectDraft, Plain};
 use ev_value::{List, Text};

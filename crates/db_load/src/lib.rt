@@ -5,8 +5,20 @@
 //! Seen by `edge_run` and the trials.
 #![tactic(auto)]
 
+mod argument_names;
+mod argument_values;
+mod arguments;
 mod data;
+mod document;
+mod drafts;
 mod laws;
+mod refusal;
+mod sections;
+#[cfg(test)]
+mod tests;
+mod text;
 
+pub use arguments::load_args;
 pub use data::load;
 pub use laws::loaded_objects_fit;
+pub use refusal::{ArgsRefusal, ArgsRule, BrokenArgs};

@@ -1,8 +1,8 @@
 //! The form of arguments.
 ghost use Rattle.std.specs.Prelude.{◌≡◌, option_map};
 ghost use Rattle.serde_json.specs.View.{view, members_view};
-ghost use Rattle.args_load.specs.Sections.{sections as sections_in_data, sections_from, no_sections, put as put_section};
-ghost use Rattle.args_load.specs.Views.{seen};
+ghost use Rattle.db_load.specs.Sections.{sections as sections_in_data, sections_from, no_sections, put as put_section};
+ghost use Rattle.db_load.specs.Views.{seen};
 
 use serde_json::{Map, Value};
 use std::alloc::Global;

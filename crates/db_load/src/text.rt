@@ -1,8 +1,8 @@
 //! The value of a JSON text.
 ghost use Rattle.std.specs.Prelude.{◌≡◌, Err, IfOk};
 ghost use Rattle.serde_json.specs.View.{view};
-ghost use Rattle.json_draft.specs.Text.{Says};
-ghost use Rattle.json_draft.specs.declared.text.TextError.TheVariants.{NoJson};
+ghost use Rattle.db_load.specs.Text.{Says};
+ghost use Rattle.db_load.specs.declared.text.TextError.TheVariants.{NoJson};
 
 use serde_json::Value;
 use serde_json::error::Category;

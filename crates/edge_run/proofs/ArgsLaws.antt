@@ -1,11 +1,11 @@
 -- What is decided of a text of arguments.
 use Rattle.std.proofs.Common.{◌≡◌, ℕ, List, [], Result, Ok, Err, ◌⊎◌, inl, inr, refl, sym, ap, ◌∙◌, subst, rules}
 use Rattle.serde_json.specs.Data.{Data}
-use Rattle.args_load.specs.Load.{IsLoaded, args_of}
-use Rattle.args_load.specs.Load as args
-use Rattle.args_load.specs.declared.refusal.ArgsRefusal.{ArgsRefusal}
-use Rattle.args_load.specs.declared.refusal.ArgsRefusal.TheVariants as load
-use Rattle.args_load.specs.declared.refusal.BrokenArgs.{BrokenArgs}
+use Rattle.db_load.specs.Arguments.{IsLoaded, args_of}
+use Rattle.db_load.specs.Arguments as args
+use Rattle.db_load.specs.declared.refusal.ArgsRefusal.{ArgsRefusal}
+use Rattle.db_load.specs.declared.refusal.ArgsRefusal.TheVariants as load
+use Rattle.db_load.specs.declared.refusal.BrokenArgs.{BrokenArgs}
 use Rattle.ev_schema.specs.declared.schema.Schema.{Schema}
 use Rattle.ev_value.specs.declared.args.Args.{Args}
 use Rattle.edge_run.specs.Args.{AreArgs, IsRefused, Decides}

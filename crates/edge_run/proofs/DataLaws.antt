@@ -1,10 +1,10 @@
 -- What is decided of a text of data.
 use Rattle.std.proofs.Common.{◌≡◌, ℕ, List, Option, Some, Result, Ok, Err, ◌⊎◌, inl, inr, refl, sym, ap, ◌∙◌, subst, rules}
 use Rattle.serde_json.specs.Data.{Data}
-use Rattle.db_load.specs.Load.{IsLoaded, stored}
+use Rattle.db_load.specs.Data.{IsLoaded, stored}
 use Rattle.ev_schema.specs.declared.schema.Schema.{Schema}
-use Rattle.json_draft.specs.Form.{document}
-use Rattle.json_draft.specs.Text.{Says}
+use Rattle.db_load.specs.Document.{document}
+use Rattle.db_load.specs.Text.{Says}
 use Rattle.db_draft.specs.declared.refusal.Broken.{Broken}
 use Rattle.db_draft.specs.declared.refusal.DataRefusal.{DataRefusal}
 use Rattle.db_draft.specs.declared.refusal.DataRefusal.TheVariants as load

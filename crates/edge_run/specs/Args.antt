@@ -1,8 +1,8 @@
 -- Which texts are arguments for a query without parameters, and why the others are refused.
 use Rattle.std.specs.Prelude.{◌≡◌, ℕ, List, [], Result, Ok, Err}
-use Rattle.args_load.specs.Load.{IsLoaded}
-use Rattle.args_load.specs.declared.refusal.ArgsRefusal.TheVariants as load
-use Rattle.args_load.specs.declared.refusal.BrokenArgs.{BrokenArgs}
+use Rattle.db_load.specs.Arguments.{IsLoaded}
+use Rattle.db_load.specs.declared.refusal.ArgsRefusal.TheVariants as load
+use Rattle.db_load.specs.declared.refusal.BrokenArgs.{BrokenArgs}
 use Rattle.ev_schema.specs.declared.schema.Schema.{Schema}
 use Rattle.ev_value.specs.declared.args.Args.{Args}
 use Rattle.edge_run.specs.Limits.{IsShort, IsLong}

@@ -1,6 +1,6 @@
 -- Which texts are data for a schema, and why the others are refused.
 use Rattle.std.specs.Prelude.{◌≡◌, ℕ, List, Result, Ok, Err}
-use Rattle.db_load.specs.Load.{IsLoaded}
+use Rattle.db_load.specs.Data.{IsLoaded}
 use Rattle.ev_schema.specs.declared.schema.Schema.{Schema}
 use Rattle.db_draft.specs.declared.refusal.Broken.{Broken}
 use Rattle.db_draft.specs.declared.refusal.DataRefusal.TheVariants as load

@@ -4,9 +4,9 @@ use Rattle.exact.specs.declared.rule.Rule.{Rule}
 use Rattle.exact.specs.declared.rule.Rule.TheVariants.{Unexpected, TooDeep}
 use Rattle.ev_value.specs.Item.{fault_number}
 use Rattle.ev_value.specs.declared.item.Fault.{Fault}
-use Rattle.args_load.specs.declared.refusal.ArgsRule.{ArgsRule}
-use Rattle.args_load.specs.declared.refusal.ArgsRule.TheVariants as args_rule
-use Rattle.args_load.specs.declared.refusal.BrokenArgs.{BrokenArgs}
+use Rattle.db_load.specs.declared.refusal.ArgsRule.{ArgsRule}
+use Rattle.db_load.specs.declared.refusal.ArgsRule.TheVariants as args_rule
+use Rattle.db_load.specs.declared.refusal.BrokenArgs.{BrokenArgs}
 use Rattle.db_draft.specs.declared.refusal.Broken.{Broken}
 use Rattle.db_draft.specs.declared.refusal.Rule as of_data
 use Rattle.db_draft.specs.declared.refusal.Rule.TheVariants as data_rule

@@ -1,5 +1,5 @@
 -- What written rules refuse.
-use Rattle.args_load.specs.declared.refusal.BrokenArgs.{BrokenArgs}
+use Rattle.db_load.specs.declared.refusal.BrokenArgs.{BrokenArgs}
 use Rattle.db_draft.specs.declared.refusal.Broken.{Broken}
 use Rattle.edge_run.specs.declared.outcome.Doc.{Doc}
 use Rattle.edge_run.specs.declared.outcome.UsageRule.{UsageRule}

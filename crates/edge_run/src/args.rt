@@ -4,7 +4,7 @@ ghost use Rattle.edge_run.specs.Limits.{IsShort};
 
 use crate::document::limit;
 use crate::outcome::{Doc, Outcome};
-use args_load::{ArgsRefusal, load_args};
+use db_load::{ArgsRefusal, load_args};
 use ev_schema::Schema;
 use ev_value::{Args, Bytes};
 use std::alloc::Global;

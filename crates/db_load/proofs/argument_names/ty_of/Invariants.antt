@@ -1,6 +1,6 @@
 use Rattle.std.proofs.Common.{◌≡◌, drop}
-use Rattle.args_load.specs.Values.{ty_of as ty_of_name}
-use Rattle.args_load.proofs.names.ty_of.Given as goal
+use Rattle.db_load.specs.ArgumentValues.{ty_of as ty_of_name}
+use Rattle.db_load.proofs.argument_names.ty_of.Given as goal
 
 -- what is left has what the whole has
 abbrev pub invariant-loop-one : goal.invariant-loop-one

@@ -1,6 +1,6 @@
 use Rattle.std.proofs.Common.{◌≡◌, ◌++◌, drop}
-use Rattle.args_load.specs.Values.{wanted_globals as wanted_globals_of}
-use Rattle.args_load.proofs.names.wanted_globals.Given as goal
+use Rattle.db_load.specs.ArgumentValues.{wanted_globals as wanted_globals_of}
+use Rattle.db_load.proofs.argument_names.wanted_globals.Given as goal
 
 -- those so far, and those of what is left
 abbrev pub invariant-loop-global : goal.invariant-loop-global

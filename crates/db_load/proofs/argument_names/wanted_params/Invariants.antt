@@ -1,6 +1,6 @@
 use Rattle.std.proofs.Common.{◌≡◌, ◌++◌, drop}
-use Rattle.args_load.specs.Values.{wanted_params as wanted_params_of}
-use Rattle.args_load.proofs.names.wanted_params.Given as goal
+use Rattle.db_load.specs.ArgumentValues.{wanted_params as wanted_params_of}
+use Rattle.db_load.proofs.argument_names.wanted_params.Given as goal
 
 -- those so far, and those of what is left
 abbrev pub invariant-loop-param : goal.invariant-loop-param

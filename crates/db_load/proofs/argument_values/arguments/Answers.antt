@@ -1,7 +1,7 @@
 use Rattle.std.proofs.Common.{rules}
 use Rattle.serde_json.specs.View.{view, members_view}
-use Rattle.args_load.proofs.AnswerLaws.{stops_here}
-use Rattle.args_load.proofs.values.arguments.Goals as goal
+use Rattle.db_load.proofs.AnswerLaws.{stops_here}
+use Rattle.db_load.proofs.argument_values.arguments.Goals as goal
 
 pub returns-in-Err : goal.returns-in-Err
 returns-in-Err c =

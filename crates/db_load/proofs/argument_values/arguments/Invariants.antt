@@ -1,7 +1,7 @@
 use Rattle.std.proofs.Common.{◌≡◌, []}
 use Rattle.serde_json.specs.View.{members_view}
-use Rattle.args_load.specs.Values.{arguments as arguments_of}
-use Rattle.args_load.proofs.values.arguments.Given as goal
+use Rattle.db_load.specs.ArgumentValues.{arguments as arguments_of}
+use Rattle.db_load.proofs.argument_values.arguments.Given as goal
 
 -- what is left, behind the arguments so far, gives what the whole does
 abbrev pub invariant-loop-key : goal.invariant-loop-key

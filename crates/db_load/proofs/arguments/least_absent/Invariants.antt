@@ -1,7 +1,7 @@
 use Rattle.std.proofs.Common.{◌≡◌, None, drop}
 use Rattle.std.specs.Option.{option_copied}
-use Rattle.args_load.specs.Load.{least_absent as least_absent_of}
-use Rattle.args_load.proofs.load.least_absent.Given as goal
+use Rattle.db_load.specs.Arguments.{least_absent as least_absent_of}
+use Rattle.db_load.proofs.arguments.least_absent.Given as goal
 
 -- what is left, with what was found, gives what the whole does
 abbrev pub invariant-loop-param : goal.invariant-loop-param

@@ -1,8 +1,8 @@
 use Rattle.std.proofs.Common.{◌≡◌, [], length}
 use Rattle.std.specs.Vec.Iter.{into_iter_items, into_iter_len}
 use Rattle.serde_json.specs.View.{items_view}
-use Rattle.json_draft.specs.Form.{drafts_of as drafts_of_items}
-use Rattle.json_draft.proofs.form.drafts_of.Given as goal
+use Rattle.db_load.specs.Document.{drafts_of as drafts_of_items}
+use Rattle.db_load.proofs.document.drafts_of.Given as goal
 
 -- what is left, behind the drafts so far, gives what the whole does
 abbrev pub invariant-loop-item : goal.invariant-loop-item

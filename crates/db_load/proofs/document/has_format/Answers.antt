@@ -1,8 +1,8 @@
 use Rattle.std.proofs.Common.{codes, sym, ap, ◌∙◌}
 use Rattle.std.specs.Option.{option_copied}
-use Rattle.json_draft.specs.Form.{is_format as is_format_data}
-use Rattle.json_draft.proofs.MemberLaws.{found}
-use Rattle.json_draft.proofs.form.has_format.Goals as goal
+use Rattle.db_load.specs.Document.{is_format as is_format_data}
+use Rattle.db_load.proofs.MemberLaws.{found}
+use Rattle.db_load.proofs.document.has_format.Goals as goal
 
 pub returns-in-Some : goal.returns-in-Some
 returns-in-Some c = c.is_format.ensures ∙ ap is_format_data (found (codes "format") c.args.map.now.entries _ (sym (ap option_copied c.in-Some.is) ∙ c.get.ensures.value))

@@ -1,7 +1,7 @@
 use Rattle.std.proofs.Common.{◌≡◌, ◌++◌}
 use Rattle.serde_json.specs.View.{members_view}
-use Rattle.json_draft.specs.Drafts.{fields_of as fields_of_members}
-use Rattle.json_draft.proofs.drafts.fields_of.Given as goal
+use Rattle.db_load.specs.Drafts.{fields_of as fields_of_members}
+use Rattle.db_load.proofs.drafts.fields_of.Given as goal
 
 -- the fields so far, and those of what is left
 abbrev pub invariant-loop-key : goal.invariant-loop-key

@@ -1,7 +1,7 @@
 use Rattle.std.proofs.Common.{◌≡◌, ◌++◌, None}
 use Rattle.serde_json.specs.View.{members_view}
-use Rattle.json_draft.specs.Drafts.{members_of, type_of}
-use Rattle.json_draft.proofs.drafts.object_of.Given as goal
+use Rattle.db_load.specs.Drafts.{members_of, type_of}
+use Rattle.db_load.proofs.drafts.object_of.Given as goal
 
 -- the members so far and those of what is left; the type that was found, or that is left
 abbrev pub invariant-loop-key : goal.invariant-loop-key

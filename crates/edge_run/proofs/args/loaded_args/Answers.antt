@@ -1,6 +1,6 @@
 use Rattle.std.proofs.Common.{subst, Err, []}
-use Rattle.args_load.specs.Load.{IsLoaded}
-use Rattle.args_load.specs.declared.refusal.ArgsRefusal.{ArgsRefusal}
+use Rattle.db_load.specs.Arguments.{IsLoaded}
+use Rattle.db_load.specs.declared.refusal.ArgsRefusal.{ArgsRefusal}
 use Rattle.edge_run.proofs.ArgsLaws.{loaded_is_decided, refused_is_decided}
 use Rattle.edge_run.proofs.args.loaded_args.Goals as goal
 

@@ -1,5 +1,5 @@
 use Rattle.std.proofs.Common.{subst, Err}
-use Rattle.db_load.specs.Load.{IsLoaded}
+use Rattle.db_load.specs.Data.{IsLoaded}
 use Rattle.db_draft.specs.declared.refusal.DataRefusal.{DataRefusal}
 use Rattle.edge_run.proofs.DataLaws.{loaded_is_decided, refused_is_decided}
 use Rattle.edge_run.proofs.data.loaded.Goals as goal
