@@ -1,5 +1,5 @@
 -- What columns give is what computed pointers give.
-use Rattle.std.proofs.Common.{◌≡◌, ℕ, ◌==◌, Bool, true, false, List, [], ◌∷◌, ◌++◌, map, Option, Some, None, if◌then◌else◌, refl, ap, ◌∙◌}
+use Rattle.std.proofs.Common.{◌≡◌, ℕ, ◌==◌, Bool, true, false, List, [], ◌∷◌, ◌++◌, map, Option, Some, None, if◌then◌else◌, refl, sym, ap, ◌∙◌}
 use Rattle.std.proofs.lemmas.Bool.{eqb-true}
 use Rattle.ev_value.specs.declared.args.Args.{Args}
 use Rattle.ev_value.specs.declared.item.Item.{Item}
@@ -16,7 +16,7 @@ use Rattle.eql_sem.specs.declared.form.Formed.{Formed}
 use Rattle.eql_sem.specs.Parts.{items_in}
 use Rattle.eql_sem.specs.World.{World}
 use Rattle.eql_world.specs.declared.column.Column.{Column}
-use Rattle.eql_world.specs.Steps.{of_object}
+use Rattle.eql_steps.specs.Steps.{of_object}
 use Rattle.eql_world.specs.StoreWorld.{Computes, last_column, listed_if, listed_for, is_object, by_columns, knowing, computing, values_for, world_where, world_of}
 use Rattle.eql_world.specs.Worked.{lists_for}
 
@@ -41,6 +41,9 @@ nothing_listed [] lists v none = refl
 nothing_listed (o ∷ os) [] v none = refl
 nothing_listed (o ∷ os) (xs ∷ lists) v none = ap (λ b. if b then xs else listed_for os lists v) (none o) ∙ nothing_listed os lists v none
 
+pub nothing_for : (os : List Object) (lists : List (List (Item Val))) (v : Val) → ((o : Object) → is_object v o ≡ false) → [] ≡ listed_for os lists v
+nothing_for os lists v none = sym (nothing_listed os lists v none)
+
 listed_values : (f : Val → List (Item Val)) (os : List Object) (v : Val) → listed_for os (map (λ o. f (as_value o)) os) v ≡ of_object (object_of os v) (λ o. f v)
 listed_values f os (val.Obj id) = listed f os id
 listed_values f os (val.Int z) = nothing_listed os _ (val.Int z) (λ o. refl)
@@ -48,6 +51,7 @@ listed_values f os (val.Str s) = nothing_listed os _ (val.Str s) (λ o. refl)
 listed_values f os (val.Bool b) = nothing_listed os _ (val.Bool b) (λ o. refl)
 listed_values f os (val.Id n) = nothing_listed os _ (val.Id n) (λ o. refl)
 listed_values f os (val.Tuple' m vs) = nothing_listed os _ (val.Tuple' m vs) (λ o. refl)
+listed_values f os (val.Array' m vs) = nothing_listed os _ (val.Array' m vs) (λ o. refl)
 
 -- One more column, worked out over those before it, is one more expression that is known.
 pub column_added : (s : Schema) (os : List Object) (args : Args) (cs : List Column) (c : Computed) →

@@ -4,3 +4,4 @@ pub mod Lists
 pub mod Cuts
 pub mod ViewFits
 pub mod SameWorlds
+mod Beside

@@ -145,6 +145,8 @@ module _ (s : Schema) (os : List Object) (args : Args) (fits : Fits s os) where
       (ascend_filter (λ (a b : Target). nat_lt a.id b.id) (λ (target : Target). sees target.id) ts f.0, each_filter (FitsTarget s os info t) (FitsTarget s view info t) (λ (target : Target). sees target.id) (fits_target info t) ts f.1)
   fits_value info (ty.Tuple' m ps) (value.Vals vs) f = absurd f
   fits_value info (ty.Tuple' m ps) (value.Links ts) f = absurd f
+  fits_value info (ty.Array t) (value.Vals vs) f = f
+  fits_value info (ty.Array t) (value.Links ts) f = absurd f
 
   fits_entry : (t : TypeId) (e : Entry) → is_filled (cut_value sees e.value) ≡ true → FitsEntry s os t e → FitsEntry s view t (cut_entry sees e)
   fits_entry t e h f = (f.0, (f.1.0, f.1.1, (f.1.2.0, f.1.2.1, fits_value f.1.0 f.1.2.0 e.value f.1.2.2)), filled (cut_value sees e.value) h)
@@ -184,6 +186,9 @@ module _ (s : Schema) (os : List Object) (args : Args) (fits : Fits s os) where
   type_within info c (ty.Tuple' m ps) None f w = w
   type_within info c (ty.Tuple' m ps) (Some (value.Vals vs)) f w = absurd f
   type_within info c (ty.Tuple' m ps) (Some (value.Links ts)) f w = absurd f
+  type_within info c (ty.Array t) None f w = w
+  type_within info c (ty.Array t) (Some (value.Vals vs)) f w = w
+  type_within info c (ty.Array t) (Some (value.Links ts)) f w = absurd f
 
   body_within : (info : PtrInfo) (c : Card) (b : Body) (u : Ty) (v : Option PtrValue) → stored_type b ≡ Some u → FitsIf info u v → Within c (length (led_to_if_stored v))
       → Within (weakened_by s c (target_of b)) (length (led_to_if_stored (cut_if sees v)))

@@ -1,4 +1,3 @@
-pub mod Steps
 pub mod StoreWorld
 pub mod View
 pub mod Worked

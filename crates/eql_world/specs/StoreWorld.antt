@@ -19,7 +19,7 @@ use Rattle.eql_sem.specs.declared.binding.Name.TheVariants as name
 use Rattle.eql_sem.specs.Parts.{values_in}
 use Rattle.eql_sem.specs.World.{World}
 use Rattle.eql_world.specs.declared.column.Column.{Column}
-use Rattle.eql_world.specs.Steps.{of_object, argument_named, extent, properties, links, back_links, narrowed, link_property}
+use Rattle.eql_steps.specs.Steps.{of_object, argument_named, extent, properties, links, back_links, narrowed, link_property}
 
 -- what a computed pointer gives for an object
 abbrev pub Computes : Type 0

@@ -13,6 +13,7 @@ use core_ir::Scope;
 use db_store::Object;
 use eql_eval::evaluate;
 use eql_sem::Formed;
+use eql_steps::Indexed;
 use ev_schema::Schema;
 use ev_value::{Args, Item, List};
 use std::alloc::{AllocError, Global};
@@ -31,11 +32,11 @@ fn answer_in(
     Ok(items)
 }
 
-/// The items of a query over all objects, each with its nested form. The only error is want of memory.
-pub fn answer_over_all(
+/// The items of a query over objects with an index.
+fn answer_over(
     alloc: Global,
     schema: &Schema,
-    objects: &[Object],
+    objects: &Indexed<'_>,
     args: &Args,
     query: &Scope,
 ) -> Result<List<Item<Formed>>, AllocError>
@@ -51,6 +52,20 @@ pub fn answer_over_all(
     answer_in(alloc, &world, query)
 }
 
+/// The items of a query over all objects, each with its nested form. The only error is want of memory.
+pub fn answer_over_all(
+    alloc: Global,
+    schema: &Schema,
+    objects: &[Object],
+    args: &Args,
+    query: &Scope,
+) -> Result<List<Item<Formed>>, AllocError>
+    ensures { IfOk result (λ xs. xs ≡ items_in (world_of schema.now objects.now args.now) query.now.body [] []) }
+{
+    let indexed = Indexed::new(alloc, objects)?;
+    answer_over(alloc, schema, &indexed, args, query)
+}
+
 /// The objects that a world's caller sees, with links cut to them.
 #[tactic(auto, using(crate::proofs::ViewLaws::view_flagged))]
 fn view_in(alloc: Global, world: &StoreWorld<'_>) -> Result<List<Object>, AllocError>
@@ -62,11 +77,11 @@ fn view_in(alloc: Global, world: &StoreWorld<'_>) -> Result<List<Object>, AllocE
     Ok(seen)
 }
 
-/// The objects that a caller sees, with links cut to them.
-pub fn view(
+/// The objects that a caller sees of objects with an index.
+fn view_of_indexed(
     alloc: Global,
     schema: &Schema,
-    objects: &[Object],
+    objects: &Indexed<'_>,
     args: &Args,
 ) -> Result<List<Object>, AllocError>
     ensures { IfOk result (λ os. os ≡ view_of schema.now objects.now args.now) }
@@ -79,6 +94,19 @@ pub fn view(
         columns: columns.as_slice(),
     };
     view_in(alloc, &world)
+}
+
+/// The objects that a caller sees, with links cut to them.
+pub fn view(
+    alloc: Global,
+    schema: &Schema,
+    objects: &[Object],
+    args: &Args,
+) -> Result<List<Object>, AllocError>
+    ensures { IfOk result (λ os. os ≡ view_of schema.now objects.now args.now) }
+{
+    let indexed = Indexed::new(alloc, objects)?;
+    view_of_indexed(alloc, schema, &indexed, args)
 }
 
 /// The items of a query over the objects that a caller sees. The only error is want of memory.

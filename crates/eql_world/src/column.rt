@@ -1,12 +1,15 @@
 //! What computed pointers give.
-ghost use Rattle.std.specs.Prelude.{◌≡◌, ◌++◌, IfOk, OnOk, None};
+ghost use Rattle.std.specs.Prelude.{◌≡◌, ◌++◌, slice_get, IfOk, OnOk, None};
 ghost use Rattle.std.specs.Option.{option_copied};
 ghost use Rattle.ev_value.specs.Item.{bind};
-ghost use Rattle.eql_world.specs.StoreWorld.{is_object as is_object_of, listed_for as listed_for_in, listed_if, last_column as last_column_in, by_columns};
+ghost use Rattle.ev_value.specs.declared.value.Val.TheVariants as made;
+ghost use Rattle.eql_steps.specs.ById.{if_listed as listed_or_none};
+ghost use Rattle.eql_world.specs.StoreWorld.{listed_for as listed_for_in, listed_if, last_column as last_column_in, by_columns};
 
 use core_ir::PtrId;
-use db_store::Object;
+use eql_steps::Indexed;
 use ev_value::{Item, List, Val};
+use sqlite_items::at;
 use std::alloc::{AllocError, Global};
 
 /// What a computed pointer gives for each of some objects, by place.
@@ -29,31 +32,41 @@ fn add_items(alloc: Global, out: &mut List<Item>, items: &[Item]) -> Result<(), 
     Ok(())
 }
 
-/// Whether a value is an object.
-fn is_object(value: &Val, object: &Object) -> bool
-    ensures { result ≡ is_object_of value.now object.now }
+/// The list at a place. Empty where there is none.
+fn list_at(lists: &[List<Item>], place: usize) -> &[Item]
+    ensures { result.now ≡ listed_or_none (slice_get lists.now place) }
 {
-    match value {
-        Val::Obj(id) => object.id == *id,
-        Val::Int(_) | Val::Str(_) | Val::Bool(_) | Val::Id(_) | Val::Tuple(_) => false,
+    match at(lists, place) {
+        Some(list) => list.as_slice(),
+        None => &[],
+    }
+}
+
+/// The list that stands beside the first object with an id.
+#[tactic(auto, using(crate::proofs::Beside::list_there, crate::proofs::Beside::list_nowhere))]
+fn list_of_id<'a>(objects: &Indexed<'_>, lists: &'a [List<Item>], id: u128) -> &'a [Item]
+    ensures { result.now ≡ listed_for_in objects.now lists.now (made.Obj id) }
+{
+    match objects.place(id) {
+        Some(place) => list_at(lists, place),
+        None => &[],
     }
 }
 
 /// The list that stands beside an object.
-fn listed_for<'a>(objects: &[Object], lists: &'a [List<Item>], value: &Val) -> &'a [Item]
+#[tactic(auto, using(crate::proofs::ColumnLaws::nothing_for))]
+fn listed_for<'a>(objects: &Indexed<'_>, lists: &'a [List<Item>], value: &Val) -> &'a [Item]
     ensures { result.now ≡ listed_for_in objects.now lists.now value.now }
 {
-    let mut rest = lists;
-    for object in objects {
-        let Some((list, more)) = rest.split_first() else {
-            return &[];
-        };
-        if is_object(value, object) {
-            return list.as_slice();
-        }
-        rest = more;
+    match value {
+        Val::Obj(id) => list_of_id(objects, lists, *id),
+        Val::Int(_) => &[],
+        Val::Str(_) => &[],
+        Val::Bool(_) => &[],
+        Val::Id(_) => &[],
+        Val::Tuple(_) => &[],
+        Val::Array(_) => &[],
     }
-    &[]
 }
 
 /// The last column of a pointer.
@@ -72,7 +85,7 @@ fn last_column(columns: &[Column], pointer: PtrId) -> Option<&Column>
 /// What a computed pointer gives for each object in turn.
 pub fn computed(
     alloc: Global,
-    objects: &[Object],
+    objects: &Indexed<'_>,
     columns: &[Column],
     pointer: PtrId,
     from: &[Item],
@@ -92,7 +105,7 @@ pub fn computed(
 
 fn add_listed(
     alloc: Global,
-    objects: &[Object],
+    objects: &Indexed<'_>,
     column: Option<&Column>,
     value: &Val,
     out: &mut List<Item>,

@@ -10,6 +10,7 @@ use crate::store_world::StoreWorld;
 use core_ir::Carded;
 use db_store::Object;
 use eql_eval::values_for;
+use eql_steps::Indexed;
 use ev_schema::{Computed, Schema};
 use ev_value::{Args, Item, List, Val};
 use std::alloc::{AllocError, Global};
@@ -36,7 +37,7 @@ fn lists(
     ensures { IfOk result (λ ls. ls ≡ lists_for (world_where world.now.schema.now world.now.objects.now world.now.args.now (by_columns world.now.objects.now world.now.columns.now)) expr.now world.now.objects.now) }
 {
     let mut lists = List::new(alloc);
-    for object in world.objects {
+    for object in world.objects.all() {
         lists.push(list_for(alloc, world, expr, object)?)?;
     }
     Ok(lists)
@@ -62,7 +63,7 @@ pub fn whole_list_for(
 fn add_column(
     alloc: Global,
     schema: &Schema,
-    objects: &[Object],
+    objects: &Indexed<'_>,
     args: &Args,
     computed: &Computed,
     columns: &mut List<Column>,
@@ -88,7 +89,7 @@ fn add_column(
 pub fn columns(
     alloc: Global,
     schema: &Schema,
-    objects: &[Object],
+    objects: &Indexed<'_>,
     args: &Args,
 ) -> Result<List<Column>, AllocError>
     ensures { IfOk result (λ cs. IsWhole schema.now objects.now args.now cs) }

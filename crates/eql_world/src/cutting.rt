@@ -1,28 +1,31 @@
 //! The objects that a caller sees: those that the rules of their types show, with links cut to them.
-ghost use Rattle.std.specs.Prelude.{◌≡◌, ◌++◌, filter, map, not, ℕ, Bool, IfOk, OnOk};
+ghost use Rattle.std.specs.Prelude.{◌≡◌, ◌++◌, filter, map, not, ℕ, Bool, false, slice_get, IfOk, OnOk};
 ghost use Rattle.std.specs.List.{list_any};
-ghost use Rattle.std.specs.Option.{option_copied};
+ghost use Rattle.std.specs.Option.{unwrap_or};
 ghost use Rattle.eql_world.specs.View.{flag_for as flag_for_in, flagged, cut_targets as cut_targets_by, cut_value as cut_value_by, cut as cut_by, cut_entry as cut_entry_by, is_filled as is_filled_value};
 
 use db_store::{Entry, LinkValue, Object, PtrValue, Target};
-use ev_value::{List, Val, copied_values};
+use eql_steps::Indexed;
+use ev_value::{List, copied_values};
+use sqlite_items::at;
 use std::alloc::{AllocError, Global};
 
+/// The flag at a place. False where there is none.
+fn flag_at(flags: &[bool], place: usize) -> bool
+    ensures { result ≡ unwrap_or (slice_get flags.now place) false }
+{
+    at(flags, place).copied().unwrap_or(false)
+}
+
 /// The flag that stands beside the first object with an id.
-fn flag_for(objects: &[Object], flags: &[bool], id: u128) -> bool
+#[tactic(auto, using(crate::proofs::Beside::flag_there, crate::proofs::Beside::flag_nowhere))]
+fn flag_for(objects: &Indexed<'_>, flags: &[bool], id: u128) -> bool
     ensures { result ≡ flag_for_in objects.now flags.now id }
 {
-    let mut rest = flags;
-    for object in objects {
-        let Some((flag, more)) = rest.split_first() else {
-            return false;
-        };
-        if object.id == id {
-            return *flag;
-        }
-        rest = more;
+    match objects.place(id) {
+        Some(place) => flag_at(flags, place),
+        None => false,
     }
-    false
 }
 
 fn copied_properties(alloc: Global, properties: &[LinkValue]) -> Result<List<LinkValue>, AllocError>
@@ -41,7 +44,7 @@ fn copied_properties(alloc: Global, properties: &[LinkValue]) -> Result<List<Lin
 /// The targets whose objects have a true flag.
 fn cut_targets(
     alloc: Global,
-    objects: &[Object],
+    objects: &Indexed<'_>,
     flags: &[bool],
     targets: &[Target],
 ) -> Result<List<Target>, AllocError>
@@ -62,7 +65,7 @@ fn cut_targets(
 /// What is stored of a pointer, a link cut to the targets whose objects have a true flag.
 fn cut_value(
     alloc: Global,
-    objects: &[Object],
+    objects: &Indexed<'_>,
     flags: &[bool],
     value: &PtrValue,
 ) -> Result<PtrValue, AllocError>
@@ -91,7 +94,7 @@ fn is_filled(value: &PtrValue) -> bool
 /// An object with its links cut.
 fn cut(
     alloc: Global,
-    objects: &[Object],
+    objects: &Indexed<'_>,
     flags: &[bool],
     object: &Object,
 ) -> Result<Object, AllocError>
@@ -117,14 +120,14 @@ fn cut(
 /// The objects that have a true flag, with their links cut to them.
 pub fn flagged_objects(
     alloc: Global,
-    objects: &[Object],
+    objects: &Indexed<'_>,
     flags: &[bool],
 ) -> Result<List<Object>, AllocError>
     ensures { IfOk result (λ os. os ≡ flagged (flag_for_in objects.now flags.now) objects.now flags.now) }
 {
     let mut kept = List::new(alloc);
     let mut rest = flags;
-    for object in objects {
+    for object in objects.all() {
         let Some((flag, more)) = rest.split_first() else {
             return Ok(kept);
         };

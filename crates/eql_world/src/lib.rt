@@ -7,16 +7,15 @@
 #![tactic(auto)]
 
 mod answers;
+mod arguments;
 mod column;
 mod computing;
 mod cutting;
 mod laws;
-mod links;
-mod properties;
 mod shown;
 mod store_world;
 
 pub use answers::{answer_over_all, answer_over_view, view};
 pub use column::Column;
-pub use eql_world::StoreWorld;
 pub use laws::{meaning_is_of_the_world_alone, view_fits_weakly};
+pub use store_world::StoreWorld;

@@ -133,7 +133,7 @@ pub fn shown_flags(alloc: Global, world: &StoreWorld<'_>) -> Result<List<bool>, 
     ensures { IfOk result (λ fs. fs ≡ map (shown_of world.now.schema.now world.now.objects.now world.now.args.now) world.now.objects.now) }
 {
     let mut flags = List::new(alloc);
-    for object in world.objects {
+    for object in world.objects.all() {
         flags.push(shown(alloc, world, object)?)?;
     }
     Ok(flags)

@@ -2,21 +2,20 @@
 ghost use Rattle.std.specs.Prelude.{◌≡◌, IfOk};
 ghost use Rattle.eql_world.specs.StoreWorld.{stepped, by_columns, world_where};
 
+use crate::arguments::argument;
 use crate::column::{Column, computed};
-use crate::links::{back_links, extent, links};
-use crate::properties::{argument, link_property, narrowed, properties};
 use core_ir::{PtrId, Step, TypeId};
-use db_store::Object;
 use eql_sem::World;
+use eql_steps::{Indexed, back_links, extent, link_property, links, narrowed, properties};
 use ev_schema::Schema;
 use ev_value::{Args, Item, List, Text, Val};
 use std::alloc::{AllocError, Global};
 
-/// Objects in order of id under a schema, with a caller's arguments, and with what computed pointers give.
+/// Objects with an index under a schema, with a caller's arguments, and with what computed pointers give.
 #[derive(Clone, Copy)]
 pub struct StoreWorld<'a> {
     pub schema: &'a Schema,
-    pub objects: &'a [Object],
+    pub objects: &'a Indexed<'a>,
     pub args: &'a Args,
     pub columns: &'a [Column],
 }

@@ -1,0 +1,5 @@
+pub mod Placed
+mod Members
+mod Sources
+mod Reached
+mod Rises

@@ -1,7 +1,0 @@
-use Rattle.std.proofs.Common.{◌≡◌, ◌++◌, drop}
-use Rattle.ev_value.specs.Item.{all_of}
-use Rattle.eql_world.specs.Steps.{extent}
-use Rattle.eql_world.proofs.links.extent.Given as goal
-
-abbrev pub invariant-loop-object : goal.invariant-loop-object
-invariant-loop-object l = l.out ++ all_of (extent l.schema (drop l.object-index l.objects) l.ty) ≡ all_of (extent l.schema l.objects l.ty)

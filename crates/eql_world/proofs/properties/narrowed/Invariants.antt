@@ -1,6 +1,0 @@
-use Rattle.std.proofs.Common.{◌≡◌, ◌++◌, drop}
-use Rattle.eql_world.specs.Steps.{narrowed}
-use Rattle.eql_world.proofs.properties.narrowed.Given as goal
-
-abbrev pub invariant-loop-item : goal.invariant-loop-item
-invariant-loop-item l = l.out ++ narrowed l.schema l.objects l.ty (drop l.item-index l.from) ≡ narrowed l.schema l.objects l.ty l.from

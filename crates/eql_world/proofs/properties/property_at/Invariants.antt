@@ -1,6 +1,0 @@
-use Rattle.std.proofs.Common.{◌≡◌, drop}
-use Rattle.eql_world.specs.Steps.{property_at}
-use Rattle.eql_world.proofs.properties.property_at.Given as goal
-
-abbrev pub invariant-loop-target : goal.invariant-loop-target
-invariant-loop-target l = property_at (drop l.target-index l.targets) l.object l.name ≡ property_at l.targets l.object l.name
