@@ -5,3 +5,4 @@ pub mod Outcome
 pub mod Names
 pub mod Meaning
 pub mod Forms
+pub mod FaultLaws

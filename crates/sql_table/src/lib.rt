@@ -7,6 +7,7 @@
 
 mod cell;
 mod frame;
+mod laws;
 mod operators;
 mod same;
 mod shared;
@@ -16,6 +17,7 @@ mod tests;
 
 pub use cell::{Cell, Row, Rows, copied_cells};
 pub use frame::{Frame, Scope, column, entry};
+pub use laws::only_arithmetic_faults;
 pub use operators::{binary, call, cast_cell, elements, holds, part, unary, value_of};
 pub use shared::Shared;
 pub use tables::{Table, Tables, column_names};
