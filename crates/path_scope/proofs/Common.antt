@@ -50,7 +50,7 @@ take_short k n ss h = take-take k n ss h
 pub starts : (p a : Path) → IsTrue (begins p a) → p ≡ prefix (length p.steps) a
 starts p a = (paths p (prefix (length p.steps) a)).0
 
-begun : (p a : Path) → p ≡ prefix (length p.steps) a → IsTrue (begins p a)
+pub begun : (p a : Path) → p ≡ prefix (length p.steps) a → IsTrue (begins p a)
 begun p a = (paths p (prefix (length p.steps) a)).1
 
 module _ (p a b : Path) where

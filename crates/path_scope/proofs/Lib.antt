@@ -4,3 +4,6 @@ pub mod ScopeLaws
 pub mod Longest
 pub mod Common
 pub mod Exact
+pub mod Seeing
+pub mod Branching
+pub mod Listing

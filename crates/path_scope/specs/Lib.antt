@@ -1,5 +1,9 @@
+pub mod Around
+pub mod Beginning
+pub mod Branches
 pub mod Factored
 pub mod FactoredLaw
+pub mod Found
 pub mod Scopes
 pub mod ScopeParts
 pub mod Stack

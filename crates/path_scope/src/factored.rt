@@ -1,106 +1,46 @@
-//! The factored prefixes of a scope, worked out as they are defined.
+//! The factored prefixes of a scope, in time that grows with its occurrences.
 ghost use Rattle.std.specs.Prelude.{◌≡◌, ◌∷◌, [], IfOk, OnOk, filter};
-ghost use Rattle.std.specs.List.{list_any};
-ghost use Rattle.path_scope.specs.Factored.{is_common as is_common_of, joins as joins_of, is_optional as is_optional_of, is_bound as is_bound_of, is_listed as is_listed_of, binds, prefix_at, prefixes_of, added, factored, bound_within as bound_within_of};
+ghost use Rattle.path_scope.specs.Factored.{binds, prefix_at, prefixes_of, added, factored};
 ghost use Rattle.path_scope.specs.FactoredLaw.{FactoredIsExact};
 
+use crate::around::Around;
+use crate::beginning::Beginning;
+use crate::found::Found;
 use crate::prefix::Prefix;
-use core_ir::{Direct, Occurrence, Path, alike, same_steps};
+use core_ir::{Direct, Occurrence, Path};
 use ev_value::List;
 use std::alloc::{AllocError, Global};
 
-// Whether a path is the longest that the two begin with.
-fn is_common(path: &Path, left: &Path, right: &Path) -> bool
-    ensures { result ≡ is_common_of path.now left.now right.now }
-{
-    let steps = left.steps.as_slice();
-    let end = alike(steps, right.steps.as_slice());
-    left.root.same(right.root)
-        && path.root.same(left.root)
-        && same_steps(path.steps.as_slice(), &steps[..end])
-}
-
-// Whether it is the longest that one path and any of the occurrences begin with.
-fn joins_one(path: &Path, left: &Path, all: &[Occurrence]) -> bool
-    ensures { result ≡ list_any (λ o. is_common_of path.now left.now o.path) all.now }
-{
-    all.iter()
-        .any(|occurrence| is_common(path, left, &occurrence.path))
-}
-
-// Whether it is the longest that a direct occurrence and any occurrence begin with.
-fn joins(path: &Path, direct: &[Direct], all: &[Occurrence]) -> bool
-    ensures { result ≡ joins_of direct.now all.now path.now }
-{
-    direct
-        .iter()
-        .any(|d| joins_one(path, &d.occurrence.path, all))
-}
-
-// Whether each direct occurrence that the path begins is optional.
-fn is_optional(path: &Path, direct: &[Direct]) -> bool
-    ensures { result ≡ is_optional_of direct.now path.now }
-{
-    direct
-        .iter()
-        .all(|d| !path.begins(&d.occurrence.path) || d.optional)
-}
-
-fn is_bound(path: &Path, bound: &[Path]) -> bool
-    ensures { result ≡ is_bound_of bound.now path.now }
-{
-    bound.iter().any(|other| path.same(other))
-}
-
-fn is_listed(path: &Path, found: &[Prefix]) -> bool
-    ensures { result ≡ is_listed_of found.now path.now }
-{
-    found.iter().any(|prefix| path.same(&prefix.path))
-}
-
-// What the factored prefixes of a scope depend on.
-#[derive(Clone, Copy)]
-struct Around<'a> {
-    direct: &'a [Direct],
-    all: &'a [Occurrence],
-    // The paths that are bound around the scope.
-    bound: &'a [Path],
-}
-
 // Adds the root and the first steps of an occurrence, where the scope binds them and they are not listed yet.
-fn add_prefix(
+fn add_prefix<'a>(
     alloc: Global,
-    around: &Around,
-    occurrence: &Occurrence,
+    around: &Around<'a>,
+    occurrence: &'a Occurrence,
     count: usize,
-    found: &mut List<Prefix>,
+    found: &mut Found<'a>,
 ) -> Result<(), AllocError>
-    ensures { OnOk result (found.new ≡ added found.old (filter (binds around.now.direct.now around.now.all.now around.now.bound.now) (prefix_at around.now.direct.now occurrence.now count ∷ []))) }
+    ensures { OnOk result (found.new ≡ added found.old (filter (binds around.now.direct around.now.all around.now.bound) (prefix_at around.now.direct occurrence.now count ∷ []))) }
 {
-    let path = occurrence.path.prefix(alloc, count)?;
-    if joins(&path, around.direct, around.all)
-        && !is_bound(&path, around.bound)
-        && !is_listed(&path, found.as_slice())
-    {
-        let name = occurrence.name.copied(alloc)?;
-        let optional = is_optional(&path, around.direct);
-        found.push(Prefix {
-            path,
-            name,
-            optional,
-        })?;
+    let beginning = Beginning::new(&occurrence.path, count);
+    if around.binds(&beginning) && !found.has(&beginning) {
+        let prefix = Prefix {
+            path: occurrence.path.prefix(alloc, count)?,
+            name: occurrence.name.copied(alloc)?,
+            optional: around.is_optional(&beginning),
+        };
+        found.push(beginning, prefix)?;
     }
     Ok(())
 }
 
 // Adds all that an occurrence begins with, its root alone first.
-fn add_prefixes(
+fn add_prefixes<'a>(
     alloc: Global,
-    around: &Around,
-    occurrence: &Occurrence,
-    found: &mut List<Prefix>,
+    around: &Around<'a>,
+    occurrence: &'a Occurrence,
+    found: &mut Found<'a>,
 ) -> Result<(), AllocError>
-    ensures { OnOk result (found.new ≡ added found.old (filter (binds around.now.direct.now around.now.all.now around.now.bound.now) (prefixes_of around.now.direct.now occurrence.now))) }
+    ensures { OnOk result (found.new ≡ added found.old (filter (binds around.now.direct around.now.all around.now.bound) (prefixes_of around.now.direct occurrence.now))) }
 {
     add_prefix(alloc, around, occurrence, 0, found)?;
     for count in 0..occurrence.path.steps.len() {
@@ -119,12 +59,12 @@ pub fn factored_prefixes(
 ) -> Result<List<Prefix>, AllocError>
     ensures { IfOk result (λ fs. fs ≡ factored direct.now all.now bound.now) }
 {
-    let around = Around { direct, all, bound };
-    let mut found = List::new(alloc);
+    let around = Around::new(alloc, direct, all, bound)?;
+    let mut found = Found::new(alloc);
     for occurrence in all {
         add_prefixes(alloc, &around, occurrence, &mut found)?;
     }
-    Ok(found)
+    Ok(found.into_prefixes())
 }
 
 /// A scope's factored prefixes are the longest common prefixes of a direct occurrence and an occurrence that are not

@@ -6,7 +6,11 @@
 //! Seen by `eql_sem`, `eql_eval` and `eql_holds`.
 #![tactic(auto)]
 
+mod around;
+mod beginning;
+mod branches;
 mod factored;
+mod found;
 mod prefix;
 mod scopes;
 mod stack;

@@ -165,3 +165,33 @@ fn the_longest_bound_prefix_is_found(rt: HostRuntime) -> Result<(), Fail> {
     assert!(rt; stack.find(&age).is_none());
     Ok(())
 }
+
+// `select (User.name, User.name, ..)`; or each with a property of its own.
+fn tuple(alloc: Global, count: u32, differ: bool) -> Result<Core, AllocError> {
+    let mut components = List::new(alloc);
+    for at in 0..count {
+        let pointer = if differ { at } else { NAME };
+        components.push(user(alloc, &[pointer])?)?;
+    }
+    query(alloc, Expr::Tuple(0, components), None)
+}
+
+// How many prefixes a query's one statement has.
+fn prefixes_of_statement(alloc: Global, query: &Core) -> Result<usize, AllocError> {
+    let tree = scopes_of(alloc, query)?;
+    match tree.inner.get(0) {
+        Some(statement) => Ok(statement.prefixes.len()),
+        None => Ok(0),
+    }
+}
+
+// A comparison of all pairs of these for each prefix would not end.
+#[test]
+fn a_long_tuple_has_its_scopes(rt: HostRuntime) -> Result<(), Fail> {
+    let alloc = rt.alloc();
+    let equal = tuple(alloc, 2000, false)?;
+    let different = tuple(alloc, 2000, true)?;
+    assert!(rt; prefixes_of_statement(alloc, &equal)? == 1);
+    assert!(rt; prefixes_of_statement(alloc, &different)? == 2001);
+    Ok(())
+}

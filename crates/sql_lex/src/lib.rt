@@ -2,7 +2,7 @@
 //! Takes the bytes of a text; gives its tokens with their bytes, or that it has none.
 //! Contract: `lex` is the token relation (`IsCut`) in both directions, unless memory runs out; `one_reading`: a text has at
 //! most one list of tokens; `keyword_of` gives exactly the keyword that a word is, without regard to case.
-//! Seen by `sql_grammar`, `sql_cursor`, `sql_read`, `sql_print` and `sql_spell`.
+//! Seen by `sql_grammar`, `sql_cursor`, `sql_read`, `sql_print`, `sql_spell` and `sql_parse`.
 #![tactic(auto)]
 
 mod byte;

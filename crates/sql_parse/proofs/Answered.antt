@@ -16,8 +16,8 @@ use Rattle.sql_print.specs.Lists.{tokens_of}
 use Rattle.sql_print.specs.Promise.{AreWritable}
 use Rattle.sql_spell.specs.Form.{StatementHasForm}
 use Rattle.sql_spell.proofs.Formed.{well_formed_good}
-use Rattle.sql_text.specs.Promise.{IsReadBackAs}
-use Rattle.sql_text.proofs.ReadBack.{form_is_read_back}
+use Rattle.sql_parse.specs.ReadBack.{IsReadBackAs}
+use Rattle.sql_parse.proofs.ReadBack.{form_is_read_back}
 use Rattle.sql_ast.specs.declared.select.Select.{Select}
 use Rattle.sql_parse.proofs.ReadTrees.{text_spelled}
 use Rattle.sql_parse.specs.declared.parse.SqlRefusal.{SqlRefusal}

@@ -1,3 +1,4 @@
+pub mod ReadBack
 pub mod Answered
 pub mod Built
 pub mod Keeping

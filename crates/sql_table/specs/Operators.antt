@@ -1,5 +1,5 @@
 -- What operators, casts and functions give on cells.
-use Rattle.std.specs.Prelude.{suc, Bool, true, false, not, List, [], ◌∷◌, ℤ, pos, Option, Some, None, slice_get, filter_map, if◌then◌else◌}
+use Rattle.std.specs.Prelude.{ℕ, suc, Bool, true, false, not, List, [], ◌∷◌, ◌++◌, ℤ, pos, Option, Some, None, slice_get, filter_map}
 use Rattle.ev_value.specs.Casts.{item_of_cast}
 use Rattle.ev_value.specs.Operator.{item_of_op}
 use Rattle.ev_value.specs.declared.item.Fault.{Fault}
@@ -46,7 +46,7 @@ abbrev pub strict : Option val.Val → (val.Val → Item Cell) → Item Cell
 strict (Some v) f = f v
 strict None f = item.Value Null
 
--- an operator on one value or two, which gives null where an operand is null
+-- an operator on one value or two, which gives null where an operand has no value
 abbrev pub on_one : Op → Cell → Item Cell
 on_one o x = strict (value_of x) (λ v. cell_item (item_of_op o (v ∷ [])))
 
@@ -62,40 +62,77 @@ is_true_there None = false
 abbrev pub holds : Cell → Bool
 holds x = is_true_there (value_of x)
 
--- whether a value is false
-abbrev pub is_false : val.Val → Bool
-is_false (val.Bool b) = not b
-is_false _ = false
-
 -- whether a cell is null
 abbrev pub is_null : Cell → Bool
 is_null Null = true
 is_null _ = false
 
--- AND looks at both operands: beside a null it is false where the other operand is false, and else null
-abbrev pub and_values : Option val.Val → Option val.Val → Item Cell
-and_values (Some v) (Some w) = cell_item (item_of_op op.And (v ∷ w ∷ []))
-and_values (Some v) None = item.Value (if is_false v then truth_cell false else Null)
-and_values None (Some w) = item.Value (if is_false w then truth_cell false else Null)
-and_values None None = item.Value Null
+-- the bool or the text that a value is; what is not there has none, and a value of another kind has none
+abbrev pub bool_in : Option val.Val → Option Bool
+bool_in (Some (val.Bool b)) = Some b
+bool_in _ = None
+
+abbrev pub text_in : Option val.Val → Option (List ℕ)
+text_in (Some (val.Str s)) = Some s
+text_in _ = None
+
+-- the cell that says whether something holds; null where that is not known
+abbrev pub known_truth : Option Bool → Cell
+known_truth (Some b) = truth_cell b
+known_truth None = Null
+
+-- NOT of what is not known is not known
+abbrev pub opposite : Option Bool → Option Bool
+opposite (Some b) = Some (not b)
+opposite None = None
+
+-- AND is false where one side is false, and else true where both are known
+abbrev pub both_truths : Option Bool → Option Bool → Option Bool
+both_truths (Some true) right = right
+both_truths (Some false) right = Some false
+both_truths None (Some true) = None
+both_truths None (Some false) = Some false
+both_truths None None = None
+
+-- OR is true where one side is true, and else false where both are known
+abbrev pub either_truth : Option Bool → Option Bool → Option Bool
+either_truth (Some true) right = Some true
+either_truth (Some false) right = right
+either_truth None (Some true) = Some true
+either_truth None (Some false) = None
+either_truth None None = None
+
+-- NOT, AND and OR look at all of their operands and never fault: what is no bool is not known
+abbrev pub not_item : Cell → Item Cell
+not_item x = item.Value (known_truth (opposite (bool_in (value_of x))))
 
 abbrev pub and_item : Cell → Cell → Item Cell
-and_item x y = and_values (value_of x) (value_of y)
-
--- OR looks at both operands: beside a null it is true where the other operand is true, and else null
-abbrev pub or_values : Option val.Val → Option val.Val → Item Cell
-or_values (Some v) (Some w) = cell_item (item_of_op op.Or (v ∷ w ∷ []))
-or_values (Some v) None = item.Value (if is_true v then truth_cell true else Null)
-or_values None (Some w) = item.Value (if is_true w then truth_cell true else Null)
-or_values None None = item.Value Null
+and_item x y = item.Value (known_truth (both_truths (bool_in (value_of x)) (bool_in (value_of y))))
 
 abbrev pub or_item : Cell → Cell → Item Cell
-or_item x y = or_values (value_of x) (value_of y)
+or_item x y = item.Value (known_truth (either_truth (bool_in (value_of x)) (bool_in (value_of y))))
+
+-- `||` gives one text behind the other, and null where one side is no text
+abbrev pub joined : Option (List ℕ) → Option (List ℕ) → Cell
+joined (Some s) (Some t) = Val (val.Str (s ++ t))
+joined (Some s) None = Null
+joined None right = Null
+
+abbrev pub join_item : Cell → Cell → Item Cell
+join_item x y = item.Value (joined (text_in (value_of x)) (text_in (value_of y)))
+
+-- LEN counts the characters of a text, and gives null where there is none
+abbrev pub counted_text : Option (List ℕ) → Item Cell
+counted_text (Some s) = cell_item (item_of_op op.Len (val.Str s ∷ []))
+counted_text None = item.Value Null
+
+abbrev pub len_item : Cell → Item Cell
+len_item x = counted_text (text_in (value_of x))
 
 -- what an operator gives on a cell
 abbrev pub unary_item : UnaryOp → Cell → Item Cell
 unary_item unary.Neg x = on_one op.Neg x
-unary_item unary.Not x = on_one op.Not x
+unary_item unary.Not x = not_item x
 unary_item unary.IsNull x = item.Value (truth_cell (is_null x))
 unary_item unary.IsNotNull x = item.Value (truth_cell (not (is_null x)))
 
@@ -111,7 +148,7 @@ binary_item binary.Gt x y = on_two op.Gt x y
 binary_item binary.Ge x y = on_two op.Ge x y
 binary_item binary.Add x y = on_two op.Add x y
 binary_item binary.Sub x y = on_two op.Sub x y
-binary_item binary.Concat x y = on_two op.Concat x y
+binary_item binary.Concat x y = join_item x y
 binary_item binary.Mul x y = on_two op.Mul x y
 binary_item binary.FloorDiv x y = on_two op.FloorDiv x y
 binary_item binary.Mod x y = on_two op.Mod x y
@@ -179,5 +216,5 @@ over_cells function.AssertDistinct cs = asserted (distinct_fault cell_same cs) c
 
 -- what a function gives on a cell: LEN counts characters, the others go over the elements
 abbrev pub function_item : Function → Cell → Item Cell
-function_item function.Len x = on_one op.Len x
+function_item function.Len x = len_item x
 function_item called x = over (over_cells called) (elements x)

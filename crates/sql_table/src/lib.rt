@@ -11,6 +11,8 @@ mod operators;
 mod same;
 mod shared;
 mod tables;
+#[cfg(test)]
+mod tests;
 
 pub use cell::{Cell, Row, Rows, copied_cells};
 pub use frame::{Frame, Scope, column, entry};

@@ -1,8 +1,7 @@
 //! Operators, casts and functions on cells.
-ghost use Rattle.std.specs.Prelude.{◌≡◌, [], ◌∷◌, IfOk, slice_get, if◌then◌else◌};
+ghost use Rattle.std.specs.Prelude.{◌≡◌, [], ◌∷◌, IfOk, Some, slice_get};
 ghost use Rattle.ev_value.specs.Operator.{item_of_op};
-ghost use Rattle.sql_table.specs.declared.cell.Cell.{Null};
-ghost use Rattle.sql_table.specs.Operators.{truth_cell, value_of as value_of_cell, cell_of as cell_of_value, cell_item, holds as holds_cell, is_false as is_false_value, is_null as is_null_cell, on_one as on_one_item, on_two as on_two_item, and_item, or_item, unary_item, binary_item, cast_item, parts as parts_of, part as part_of, part_among, elements as elements_of, present as present_of, asserted as asserted_item, or_null, over_cells, function_item};
+ghost use Rattle.sql_table.specs.Operators.{truth_cell, value_of as value_of_cell, cell_of as cell_of_value, cell_item, holds as holds_cell, is_null as is_null_cell, on_one as on_one_item, on_two as on_two_item, bool_in as bool_in_value, text_in as text_in_value, known_truth as known_truth_of, opposite as opposite_of, both_truths as both_truths_of, either_truth as either_truth_of, join_item, len_item, unary_item, binary_item, cast_item, parts as parts_of, part as part_of, part_among, elements as elements_of, present as present_of, asserted as asserted_item, or_null, over_cells, function_item};
 ghost use Rattle.sql_table.specs.Outcome.{Gives};
 
 use crate::cell::Cell;
@@ -10,7 +9,7 @@ use ev_list::{
     all_true, any_true, count, distinct_fault, exists_fault, greatest, is_true, least,
     single_fault, sum,
 };
-use ev_value::{Fault, Item, List, Op, OpError, Val, apply_op, cast};
+use ev_value::{Fault, Item, List, Op, OpError, Text, Val, apply_op, cast};
 use sql_ast::{BinaryOp, Function, SqlTy, UnaryOp};
 use std::alloc::{AllocError, Global};
 
@@ -46,15 +45,6 @@ pub fn holds(cell: &Cell) -> bool
         Cell::Val(value) => is_true(value),
         Cell::Row(_) => false,
         Cell::Array(_) => false,
-    }
-}
-
-fn is_false(value: &Val) -> bool
-    ensures { result ≡ is_false_value value.now }
-{
-    match value {
-        Val::Bool(truth) => !*truth,
-        _ => false,
     }
 }
 
@@ -104,32 +94,106 @@ fn truth(truth: bool) -> Cell
     Cell::Val(Val::Bool(truth))
 }
 
-/// A bool where it is said, and else null.
-fn truth_if(said: bool, told: bool) -> Cell
-    ensures { result ≡ (if said then truth_cell told else Null) }
+/// The cell that says whether something holds; null where that is not known.
+fn known_truth(truth_there: Option<bool>) -> Cell
+    ensures { result ≡ known_truth_of truth_there }
 {
-    if said { truth(told) } else { Cell::Null }
-}
-
-fn both(left: Cell, right: Cell) -> Result<Cell, OpError>
-    ensures { Gives result (and_item left right) }
-{
-    match (value_of(left), value_of(right)) {
-        (Some(a), Some(b)) => on_values(Op::And, a, b),
-        (Some(a), None) => Ok(truth_if(is_false(&a), false)),
-        (None, Some(b)) => Ok(truth_if(is_false(&b), false)),
-        (None, None) => Ok(Cell::Null),
+    match truth_there {
+        Some(told) => truth(told),
+        None => Cell::Null,
     }
 }
 
-fn either(left: Cell, right: Cell) -> Result<Cell, OpError>
-    ensures { Gives result (or_item left right) }
+fn bool_of(value: &Val) -> Option<bool>
+    ensures { result ≡ bool_in_value (Some value.now) }
 {
-    match (value_of(left), value_of(right)) {
-        (Some(a), Some(b)) => on_values(Op::Or, a, b),
-        (Some(a), None) => Ok(truth_if(is_true(&a), true)),
-        (None, Some(b)) => Ok(truth_if(is_true(&b), true)),
-        (None, None) => Ok(Cell::Null),
+    match value {
+        Val::Bool(truth) => Some(*truth),
+        _ => None,
+    }
+}
+
+/// The bool in a cell. Null, a row, an array and a value of another kind have none.
+fn bool_in(cell: Cell) -> Option<bool>
+    ensures { result ≡ bool_in_value (value_of_cell cell) }
+{
+    match value_of(cell) {
+        Some(value) => bool_of(&value),
+        None => None,
+    }
+}
+
+fn text_of(value: Val) -> Option<Text>
+    ensures { result ≡ text_in_value (Some value) }
+{
+    match value {
+        Val::Str(text) => Some(text),
+        _ => None,
+    }
+}
+
+/// The text in a cell. Null, a row, an array and a value of another kind have none.
+fn text_in(cell: Cell) -> Option<Text>
+    ensures { result ≡ text_in_value (value_of_cell cell) }
+{
+    match value_of(cell) {
+        Some(value) => text_of(value),
+        None => None,
+    }
+}
+
+fn opposite(truth_there: Option<bool>) -> Option<bool>
+    ensures { result ≡ opposite_of truth_there }
+{
+    match truth_there {
+        Some(told) => Some(!told),
+        None => None,
+    }
+}
+
+fn both_truths(left: Option<bool>, right: Option<bool>) -> Option<bool>
+    ensures { result ≡ both_truths_of left right }
+{
+    match (left, right) {
+        (Some(true), _) => right,
+        (Some(false), _) => Some(false),
+        (None, Some(false)) => Some(false),
+        (None, Some(true)) => None,
+        (None, None) => None,
+    }
+}
+
+fn either_truth(left: Option<bool>, right: Option<bool>) -> Option<bool>
+    ensures { result ≡ either_truth_of left right }
+{
+    match (left, right) {
+        (Some(true), _) => Some(true),
+        (Some(false), _) => right,
+        (None, Some(true)) => Some(true),
+        (None, Some(false)) => None,
+        (None, None) => None,
+    }
+}
+
+fn joined(left: Cell, right: Cell) -> Result<Cell, OpError>
+    ensures { Gives result (join_item left right) }
+{
+    match (text_in(left), text_in(right)) {
+        (Some(a), Some(b)) => Ok(Cell::Val(Val::Str(a.joined(&b)?))),
+        _ => Ok(Cell::Null),
+    }
+}
+
+/// How many characters the text in a cell has; null where there is none.
+fn counted_text(cell: Cell) -> Result<Cell, OpError>
+    ensures { Gives result (len_item cell) }
+{
+    match text_in(cell) {
+        Some(text) => {
+            let operands = [Val::Str(text)];
+            Ok(Cell::Val(apply_op(Op::Len, &operands)?))
+        }
+        None => Ok(Cell::Null),
     }
 }
 
@@ -139,20 +203,20 @@ pub fn unary(operator: UnaryOp, operand: Cell) -> Result<Cell, OpError>
 {
     match operator {
         UnaryOp::Neg => on_one(Op::Neg, operand),
-        UnaryOp::Not => on_one(Op::Not, operand),
+        UnaryOp::Not => Ok(known_truth(opposite(bool_in(operand)))),
         UnaryOp::IsNull => Ok(truth(is_null(&operand))),
         UnaryOp::IsNotNull => Ok(truth(!is_null(&operand))),
     }
 }
 
 /// What an operator gives on two cells. `AND` and `OR` know null as a third truth; the others give null where an
-/// operand is null.
+/// operand has no value. Only `+ - * // %` can fault.
 pub fn binary(operator: BinaryOp, left: Cell, right: Cell) -> Result<Cell, OpError>
     ensures { Gives result (binary_item operator left right) }
 {
     match operator {
-        BinaryOp::Or => either(left, right),
-        BinaryOp::And => both(left, right),
+        BinaryOp::Or => Ok(known_truth(either_truth(bool_in(left), bool_in(right)))),
+        BinaryOp::And => Ok(known_truth(both_truths(bool_in(left), bool_in(right)))),
         BinaryOp::Eq => on_two(Op::Eq, left, right),
         BinaryOp::Ne => on_two(Op::Ne, left, right),
         BinaryOp::Lt => on_two(Op::Lt, left, right),
@@ -161,7 +225,7 @@ pub fn binary(operator: BinaryOp, left: Cell, right: Cell) -> Result<Cell, OpErr
         BinaryOp::Ge => on_two(Op::Ge, left, right),
         BinaryOp::Add => on_two(Op::Add, left, right),
         BinaryOp::Sub => on_two(Op::Sub, left, right),
-        BinaryOp::Concat => on_two(Op::Concat, left, right),
+        BinaryOp::Concat => joined(left, right),
         BinaryOp::Mul => on_two(Op::Mul, left, right),
         BinaryOp::FloorDiv => on_two(Op::FloorDiv, left, right),
         BinaryOp::Mod => on_two(Op::Mod, left, right),
@@ -288,7 +352,7 @@ pub fn call(alloc: Global, function: Function, operand: Cell) -> Result<Cell, Op
     ensures { Gives result (function_item function operand) }
 {
     match function {
-        Function::Len => on_one(Op::Len, operand),
+        Function::Len => counted_text(operand),
         _ => match elements(operand) {
             None => Ok(Cell::Null),
             Some(cells) => over(alloc, function, cells),

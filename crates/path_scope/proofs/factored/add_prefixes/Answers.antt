@@ -7,4 +7,4 @@ pub loop-count-preserved : goal.loop-count-preserved
 loop-count-preserved c =
     let s = c.args.around.now in
     let o = c.args.occurrence.now in
-    longer (binds s.direct.now s.all.now s.bound.now) s.direct.now o c.loop-count.found c.add_prefix-in-loop-count.new.found c.loop-count.count (length o.path.steps) (omega arith) c.in_ok-add_prefix-2.ensures ∙ c.loop-count.invariant
+    longer (binds s.direct s.all s.bound) s.direct o c.loop-count.found c.add_prefix-in-loop-count.new.found c.loop-count.count (length o.path.steps) (omega arith) c.in_ok-add_prefix-2.ensures ∙ c.loop-count.invariant

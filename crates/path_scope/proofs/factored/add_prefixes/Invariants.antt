@@ -6,5 +6,5 @@ use Rattle.path_scope.proofs.factored.add_prefixes.Given as goal
 
 abbrev pub invariant-loop-count : goal.invariant-loop-count
 invariant-loop-count l =
-    added l.found (filter (binds l.around.direct.now l.around.all.now l.around.bound.now) (beginnings l.around.direct.now l.occurrence (l.count + 1) (length l.occurrence.path.steps - l.count)))
-    ≡ added l.fn.found (filter (binds l.around.direct.now l.around.all.now l.around.bound.now) (prefixes_of l.around.direct.now l.occurrence))
+    added l.found (filter (binds l.around.direct l.around.all l.around.bound) (beginnings l.around.direct l.occurrence (l.count + 1) (length l.occurrence.path.steps - l.count)))
+    ≡ added l.fn.found (filter (binds l.around.direct l.around.all l.around.bound) (prefixes_of l.around.direct l.occurrence))

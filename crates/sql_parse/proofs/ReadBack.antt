@@ -16,7 +16,7 @@ use Rattle.sql_ast.specs.declared.select.TheConstants.{MAX_NESTING}
 use Rattle.sql_ast.specs.Nesting.{nesting}
 use Rattle.sql_print.specs.Promise.{AreWritable}
 use Rattle.sql_spell.specs.Form.{StatementHasForm}
-use Rattle.sql_text.specs.Promise.{IsReadBackAs}
+use Rattle.sql_parse.specs.ReadBack.{IsReadBackAs}
 
 pub form_is_read_back : (s : Stmt) → StatementHasForm s → nesting s ≤ MAX_NESTING → AreWritable (tokens_of s) → IsReadBackAs (text_of (tokens_of s)) s
 form_is_read_back s form low writable =

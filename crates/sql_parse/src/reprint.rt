@@ -1,6 +1,6 @@
 //! Reading and printing together.
 ghost use Rattle.std.specs.Prelude.{◌<◌, ◌-◌, ◌^◌, length, IfOk};
-ghost use Rattle.sql_text.specs.Promise.{IsReprint};
+ghost use Rattle.sql_parse.specs.ReadBack.{IsReprint};
 
 use ev_value::Text;
 use sql_ast::Stmt;

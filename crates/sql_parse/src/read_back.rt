@@ -10,7 +10,7 @@ ghost use Rattle.sql_print.specs.Lists.{tokens_of};
 ghost use Rattle.sql_print.specs.Promise.{AreWritable};
 ghost use Rattle.sql_spell.specs.Form.{StatementHasForm};
 ghost use Rattle.sql_spell.specs.Machine.{StatementFits};
-ghost use Rattle.sql_text.specs.Promise.{IsReadBackAs};
+ghost use Rattle.sql_parse.specs.ReadBack.{IsReadBackAs};
 
 /// What is printed of a well-formed statement, as the machine's types hold it, is read back as this statement.
 pub fn printed_is_read_back()

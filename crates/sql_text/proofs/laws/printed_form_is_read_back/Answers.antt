@@ -1,5 +1,0 @@
-use Rattle.sql_text.proofs.ReadBack.{form_is_read_back}
-use Rattle.sql_text.proofs.laws.printed_form_is_read_back.Goals as goal
-
-pub returns : goal.returns
-returns c = form_is_read_back
