@@ -19,8 +19,9 @@ use Rattle.db_draft.specs.declared.draft.Member.{Member}
 use Rattle.db_store.specs.Fits.{Each, Ascend, text_before, name_of, entry_before}
 use Rattle.db_store.specs.Objects.{entry}
 use Rattle.db_store.specs.declared.object.Entry.{Entry}
+use Rattle.ev_schema.specs.Named.{named_pointers, pointers_in_order}
 use Rattle.db_values.specs.Elements.{elements}
-use Rattle.db_values.specs.Made.{stored_entry, entry_of, entry_if_known, entries, named_pointers, pointers_in_order}
+use Rattle.db_values.specs.Made.{stored_entry, entry_of, entry_if_known, entries}
 use Rattle.db_check.specs.Laws.{NamesDiffer}
 use Rattle.db_check.proofs.Contained.{each_contained}
 use Rattle.db_check.proofs.Listed.{skipped, known_other}

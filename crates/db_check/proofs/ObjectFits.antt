@@ -17,7 +17,8 @@ use Rattle.db_store.specs.Objects.{find, led_to_if_stored}
 use Rattle.db_store.specs.declared.object.Object.{Object}
 use Rattle.db_ids.specs.declared.heads.Head.{Head}
 use Rattle.db_values.specs.Links.{alone, leads_to}
-use Rattle.db_values.specs.Made.{pointers_in_order, object_of}
+use Rattle.ev_schema.specs.Named.{pointers_in_order}
+use Rattle.db_values.specs.Made.{object_of}
 use Rattle.db_values.specs.Names.{flaw_if_known, first_flawed, least_unknown, sooner, object_flaw}
 use Rattle.db_values.specs.declared.flaw.Flaw.{Flaw}
 use Rattle.db_values.specs.declared.flaw.Flawed.{Flawed}

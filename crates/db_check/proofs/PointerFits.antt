@@ -2,7 +2,7 @@
 use Rattle.std.proofs.Common.{◌≡◌, ◌≢◌, ℕ, suc, true, false, List, [], ◌∷◌, length, map, Option, Some, None, option_map, slice_get, cond, eq-eqb, refl, sym, ap, ◌∙◌, subst, arith}
 use Rattle.std.proofs.lemmas.List.{length-map}
 use Rattle.std.specs.List.{Contains}
-use Rattle.core_ir.specs.Card.{Within}
+use Rattle.core_ir.specs.Card.{Within, is_many}
 use Rattle.core_ir.specs.declared.path.PtrId.{PtrId}
 use Rattle.core_ir.specs.declared.path.TypeId.{TypeId}
 use Rattle.core_ir.specs.declared.ty.Ty.{Ty}
@@ -25,7 +25,7 @@ use Rattle.db_store.specs.declared.object.PtrValue.{PtrValue}
 use Rattle.db_store.specs.declared.object.PtrValue.TheVariants as value
 use Rattle.db_store.specs.declared.object.Target.{Target}
 use Rattle.db_ids.specs.declared.heads.Head.{Head}
-use Rattle.db_values.specs.Elements.{is_many, form_flaw, elements, is_lacking}
+use Rattle.db_values.specs.Elements.{form_flaw, elements, is_lacking}
 use Rattle.db_values.specs.Links.{alone, leads_to, link_flaw}
 use Rattle.db_values.specs.Made.{stored_entry, entry_of, entry_if_known, targets_of}
 use Rattle.db_values.specs.Names.{stored_flaw, pointer_flaw, flaw_if_known}

@@ -1,7 +1,7 @@
 -- The values that are made of a property where none of its rules fails.
 use Rattle.std.proofs.Common.{◌≡◌, ◌≢◌, ℕ, suc, ◌≤◌, Bool, true, false, not, List, [], ◌∷◌, ◌++◌, length, Option, Some, None, is_none, option_map, cond, refl, ap, arith}
 use Rattle.std.specs.List.{list_any}
-use Rattle.core_ir.specs.Card.{Within}
+use Rattle.core_ir.specs.Card.{Within, is_many, is_required}
 use Rattle.core_ir.specs.declared.card.Card.{Card}
 use Rattle.core_ir.specs.declared.card.Card.TheVariants as card
 use Rattle.ev_schema.specs.declared.pointer.Limit.{Limit}
@@ -21,7 +21,7 @@ use Rattle.db_draft.specs.declared.draft.Element.TheVariants as element
 use Rattle.db_draft.specs.declared.draft.Plain.{Plain}
 use Rattle.db_draft.specs.declared.draft.Plain.TheVariants as plain
 use Rattle.db_draft.specs.declared.refusal.Rule.TheVariants as rule
-use Rattle.db_values.specs.Elements.{is_many, is_required, is_empty, form_flaw, elements, is_lacking}
+use Rattle.db_values.specs.Elements.{is_empty, form_flaw, elements, is_lacking}
 use Rattle.db_values.specs.Properties.{value_in, values_of, some_ill, breaks, property_flaw}
 use Rattle.db_check.proofs.NoFlaw.{neither_of, not_when, not_false, neither, each_not}
 use Rattle.db_check.proofs.IdOrder.{each_more}

@@ -4,6 +4,7 @@ use Rattle.ev_value.specs.declared.value.Val.TheVariants as made
 use Rattle.ev_list.specs.Order.{in_order, keyless}
 use Rattle.ev_list.specs.declared.order.Keyed.{Keyed}
 use Rattle.core_ir.specs.declared.path.PtrId.{PtrId}
+use Rattle.ev_schema.specs.Named.{pointers_in_order}
 use Rattle.ev_schema.specs.Policies.{by_name}
 use Rattle.ev_schema.specs.declared.schema.Schema.{Schema}
 use Rattle.db_store.specs.declared.object.Object.{Object}
@@ -14,7 +15,7 @@ use Rattle.db_ids.specs.Heads.{heads}
 use Rattle.db_ids.specs.declared.heads.Head.{Head}
 use Rattle.db_values.specs.declared.flaw.Flaw.{Flaw}
 use Rattle.db_values.specs.Names.{object_flaw}
-use Rattle.db_values.specs.Made.{pointers_in_order, object_of}
+use Rattle.db_values.specs.Made.{object_of}
 use Rattle.db_check.specs.Exclusive.{pointers_at, exclusive}
 use Rattle.db_check.specs.declared.store.Store.{Store}
 

@@ -9,7 +9,7 @@ use core_ir::{PtrId, TypeId};
 use db_draft::{Broken, DataRefusal, ObjectDraft};
 use db_ids::{Head, Heads};
 use db_store::Object;
-use db_values::{Flaw, object_flaw, object_of, pointers_in_order};
+use db_values::{Flaw, object_flaw, object_of};
 use ev_list::{Absent, Direction, KeyOrder, Keyed, backward, in_order, keyless};
 use ev_schema::Schema;
 use ev_value::{List, Val};
@@ -22,7 +22,7 @@ pub fn orders(alloc: Global, schema: &Schema) -> Result<List<List<PtrId>>, Alloc
 {
     let mut all = List::new(alloc);
     for k in 0..schema.types.len() {
-        all.push(pointers_in_order(alloc, schema, TypeId(k as u32))?)?;
+        all.push(schema.pointers_in_order(alloc, TypeId(k as u32))?)?;
     }
     Ok(all)
 }

@@ -1,7 +1,7 @@
 -- What stands for a pointer, as elements.
 use Rattle.std.specs.Prelude.{Bool, true, false, not, List, [], ◌∷◌, Option, Some, None, if◌then◌else◌}
 use Rattle.core_ir.specs.declared.card.Card.{Card}
-use Rattle.core_ir.specs.declared.card.Card.TheVariants as card
+use Rattle.core_ir.specs.Card.{is_required}
 use Rattle.db_draft.specs.First.{when}
 use Rattle.db_draft.specs.declared.draft.Draft.{Draft}
 use Rattle.db_draft.specs.declared.draft.Draft.TheVariants as draft
@@ -11,22 +11,6 @@ use Rattle.db_draft.specs.declared.draft.Plain.{Plain}
 use Rattle.db_draft.specs.declared.draft.Plain.TheVariants as plain
 use Rattle.db_draft.specs.declared.refusal.Rule.{Rule}
 use Rattle.db_draft.specs.declared.refusal.Rule.TheVariants as rule
-
--- whether a pointer may have many values
-abbrev pub is_many : Card → Bool
-is_many card.Empty = false
-is_many card.AtMostOne = false
-is_many card.One = false
-is_many card.AtLeastOne = true
-is_many card.Many = true
-
--- whether a pointer has a value at least
-abbrev pub is_required : Card → Bool
-is_required card.Empty = false
-is_required card.AtMostOne = false
-is_required card.One = true
-is_required card.AtLeastOne = true
-is_required card.Many = false
 
 abbrev pub is_null : Plain → Bool
 is_null plain.Null = true

@@ -8,13 +8,10 @@ use Rattle.core_ir.specs.declared.path.TypeId.{TypeId}
 use Rattle.core_ir.specs.declared.ty.Ty.{Ty}
 use Rattle.core_ir.specs.declared.ty.Ty as ty
 use Rattle.ev_schema.specs.Policies.{by_name}
-use Rattle.ev_schema.specs.Types.{listed_pointers}
 use Rattle.ev_schema.specs.declared.pointer.Body.{Body}
 use Rattle.ev_schema.specs.declared.pointer.Body.TheVariants as body
 use Rattle.ev_schema.specs.declared.pointer.LinkProperty.{LinkProperty}
 use Rattle.ev_schema.specs.declared.pointer.PtrInfo.{PtrInfo}
-use Rattle.ev_schema.specs.declared.schema.Schema.{Schema}
-use Rattle.db_store.specs.Fits.{name_of}
 use Rattle.db_store.specs.declared.object.Entry.{Entry}
 use Rattle.db_store.specs.declared.object.LinkValue.{LinkValue}
 use Rattle.db_store.specs.declared.object.Object.{Object}
@@ -29,15 +26,6 @@ use Rattle.db_draft.specs.declared.draft.Plain.{Plain}
 use Rattle.db_values.specs.Elements.{elements}
 use Rattle.db_values.specs.Properties.{values_of, value_in}
 use Rattle.db_values.specs.Links.{target_id, fields_of, is_key_of}
-
--- pointers with their names as keys
-abbrev pub named_pointers : List PtrInfo → List PtrId → List (Keyed PtrId)
-named_pointers infos [] = []
-named_pointers infos (p ∷ more) = record { keys = Some (made.Str (name_of (slice_get infos p.0))) ∷ []; value = p } ∷ named_pointers infos more
-
--- the pointers of a type but for `id`, in byte order of their names
-abbrev pub pointers_in_order : Schema → TypeId → List PtrId
-pointers_in_order s t = keyless (in_order by_name (named_pointers s.pointers (listed_pointers s.types t)))
 
 -- what stands under the key of a link's property, if anything does
 abbrev pub property_in : List Field → List ℕ → Option Plain

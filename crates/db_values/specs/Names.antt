@@ -1,6 +1,7 @@
 -- What fails in an object, at the least name.
 use Rattle.std.specs.Prelude.{ℕ, Bool, true, false, not, List, [], ◌∷◌, Option, Some, None, slice_get, option_map, if◌then◌else◌}
 use Rattle.ev_value.specs.declared.value.ScalarTy.{ScalarTy}
+use Rattle.core_ir.specs.Card.{is_many}
 use Rattle.core_ir.specs.declared.path.PtrId.{PtrId}
 use Rattle.core_ir.specs.declared.path.TypeId.{TypeId}
 use Rattle.core_ir.specs.declared.ty.Ty.{Ty}
@@ -21,7 +22,7 @@ use Rattle.db_draft.specs.declared.refusal.Rule.TheVariants as rule
 use Rattle.db_ids.specs.declared.heads.Head.{Head}
 use Rattle.db_values.specs.declared.flaw.Flaw.{Flaw}
 use Rattle.db_values.specs.declared.flaw.Flawed.{Flawed}
-use Rattle.db_values.specs.Elements.{is_many, form_flaw, elements}
+use Rattle.db_values.specs.Elements.{form_flaw, elements}
 use Rattle.db_values.specs.Properties.{property_flaw}
 use Rattle.db_values.specs.Links.{alone, link_flaw}
 

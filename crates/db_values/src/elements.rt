@@ -1,31 +1,11 @@
 //! What stands for a pointer, as elements.
 ghost use Rattle.std.specs.Prelude.{◌≡◌};
 ghost use Rattle.std.specs.Option.{option_copied};
-ghost use Rattle.db_values.specs.Elements.{is_many as is_many_card, is_required as is_required_card, is_null as is_null_plain, is_empty as is_empty_element, form_flaw as form_flaw_of, elements as elements_of, is_lacking as is_lacking_of};
+ghost use Rattle.db_values.specs.Elements.{is_null as is_null_plain, is_empty as is_empty_element, form_flaw as form_flaw_of, elements as elements_of, is_lacking as is_lacking_of};
 
 use core_ir::Card;
 use db_draft::{Draft, Element, Plain, Rule};
 use std::slice;
-
-/// Whether a pointer may have many values.
-pub fn is_many(card: Card) -> bool
-    ensures { result ≡ is_many_card card }
-{
-    match card {
-        Card::Empty | Card::AtMostOne | Card::One => false,
-        Card::AtLeastOne | Card::Many => true,
-    }
-}
-
-/// Whether a pointer has a value at least.
-fn is_required(card: Card) -> bool
-    ensures { result ≡ is_required_card card }
-{
-    match card {
-        Card::One | Card::AtLeastOne => true,
-        Card::Empty | Card::AtMostOne | Card::Many => false,
-    }
-}
 
 /// Whether it is `null`.
 pub fn is_null(plain: &Plain) -> bool
@@ -90,7 +70,7 @@ pub fn is_lacking(card: Card, elements: &[Element]) -> bool
     ensures { result ≡ is_lacking_of card elements.now }
 {
     if elements.is_empty() {
-        is_required(card)
+        card.is_required()
     } else {
         false
     }

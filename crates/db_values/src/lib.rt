@@ -20,4 +20,3 @@ pub use flaw::Flaw;
 pub use limits::meets;
 pub use names::object_flaw;
 pub use object::object_of;
-pub use order::pointers_in_order;

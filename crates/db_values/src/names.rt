@@ -4,7 +4,7 @@ ghost use Rattle.std.specs.Option.{option_copied};
 ghost use Rattle.db_store.specs.Fits.{text_before, name_of};
 ghost use Rattle.db_values.specs.Names.{is_stored as is_stored_body, is_unknown_key as is_unknown_key_in, lesser as lesser_of, least_unknown as least_unknown_in, scalar_flaw as scalar_flaw_of, array_flaw as array_flaw_of, target_flaw as target_flaw_of, pointer_flaw as pointer_flaw_of, flaw_if_known, first_flawed as first_flawed_of, sooner as sooner_of, object_flaw as object_flaw_of};
 
-use crate::elements::{elements, form_flaw, is_many};
+use crate::elements::{elements, form_flaw};
 use crate::flaw::{Flaw, Flawed};
 use crate::links::{alone, link_flaw};
 use crate::properties::property_flaw;
@@ -79,7 +79,7 @@ fn scalar_flaw(
 ) -> Result<Option<Flaw>, AllocError>
     ensures { IfOk result (λ f. f ≡ scalar_flaw_of info.now ty (option_copied draft.entry)) }
 {
-    if let Some(rule) = form_flaw(is_many(info.card), draft) {
+    if let Some(rule) = form_flaw(info.card.is_many(), draft) {
         return Ok(Some(alone(rule)));
     }
     match property_flaw(alloc, info, ty, elements(draft))? {
@@ -98,7 +98,7 @@ fn target_flaw(
 ) -> Result<Option<Flaw>, AllocError>
     ensures { IfOk result (λ f. f ≡ target_flaw_of schema.now.types heads.now info.now ty (option_copied draft.entry)) }
 {
-    if let Some(rule) = form_flaw(is_many(info.card), draft) {
+    if let Some(rule) = form_flaw(info.card.is_many(), draft) {
         return Ok(Some(alone(rule)));
     }
     link_flaw(alloc, schema, heads, info, ty, elements(draft))

@@ -1,6 +1,6 @@
 //! What the rules tell of one object, and characters in place of bytes.
 
-use crate::{meets, object_flaw, pointers_in_order};
+use crate::{meets, object_flaw};
 use core_ir::{Card, PtrId, Ty, TypeId};
 use db_draft::{Draft, Element, Member, Plain, Rule};
 use db_ids::Heads;
@@ -55,7 +55,7 @@ fn schema(alloc: Global) -> Result<Schema, AllocError> {
 fn told(alloc: Global, key: &str, value: Draft) -> Result<Option<Rule>, AllocError> {
     let schema = schema(alloc)?;
     let ty = TypeId(0);
-    let listed = pointers_in_order(alloc, &schema, ty)?;
+    let listed = schema.pointers_in_order(alloc, ty)?;
     let name = Text::from_str(alloc, key)?;
     if schema.pointers.is_empty() || schema.pointers.len() > 2 {
         return Ok(Some(Rule::X1));

@@ -20,7 +20,9 @@ use Rattle.db_store.specs.Objects.{values_at, targets_at}
 use Rattle.sql_table.specs.declared.cell.Cell.{Cell, Null, Val as CellOf}
 use Rattle.sql_encode.specs.declared.source.Source.{Source}
 use Rattle.sql_encode.specs.declared.source.Source.TheVariants as source
-use Rattle.sql_encode.specs.Sources.{is_many, cell_type, pointers_in_order}
+use Rattle.core_ir.specs.Card.{is_many}
+use Rattle.ev_schema.specs.Named.{pointers_in_order}
+use Rattle.sql_encode.specs.Sources.{cell_type}
 
 -- an id as a cell
 abbrev pub id_cell : ℕ → Cell

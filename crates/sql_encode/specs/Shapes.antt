@@ -18,7 +18,9 @@ use Rattle.sql_ast.specs.declared.catalog.Typed.{Typed}
 use Rattle.sql_ast.specs.declared.ty.SqlTy.TheVariants as sql
 use Rattle.sql_encode.specs.declared.source.Source.{Source}
 use Rattle.sql_encode.specs.declared.source.Source.TheVariants as source
-use Rattle.sql_encode.specs.Sources.{is_many, cell_type, pointers_in_order, type_name, pointer_table, sources}
+use Rattle.core_ir.specs.Card.{is_many}
+use Rattle.ev_schema.specs.Named.{pointers_in_order}
+use Rattle.sql_encode.specs.Sources.{cell_type, type_name, pointer_table, sources}
 
 abbrev pub column : List ℕ → ScalarTy → Typed
 column name t = record { name = name; ty = sql.Scalar t }

@@ -5,8 +5,7 @@ use Rattle.ev_value.specs.declared.value.ScalarTy.TheVariants as scalar
 use Rattle.ev_value.specs.declared.value.Val.TheVariants as made
 use Rattle.ev_list.specs.Order.{in_order, keyless}
 use Rattle.ev_list.specs.declared.order.Keyed.{Keyed}
-use Rattle.core_ir.specs.declared.card.Card.{Card}
-use Rattle.core_ir.specs.declared.card.Card.TheVariants as card
+use Rattle.core_ir.specs.Card.{is_many}
 use Rattle.core_ir.specs.declared.path.PtrId.{PtrId}
 use Rattle.core_ir.specs.declared.path.TypeId.{TypeId}
 use Rattle.core_ir.specs.declared.ty.Ty.{Ty}
@@ -23,36 +22,16 @@ use Rattle.sql_encode.specs.declared.source.Source.TheVariants as source
 
 -- ---- pointers
 
--- whether a pointer may have many values
-abbrev pub is_many : Card → Bool
-is_many card.Empty = false
-is_many card.AtMostOne = false
-is_many card.One = false
-is_many card.AtLeastOne = true
-is_many card.Many = true
-
--- the type of a stored pointer's cells: that of a property, and of a link a uuid
+-- The type of a stored pointer's cells: that of a property, and of a link a uuid. A pointer of tuples or of arrays has no cells.
 abbrev pub cell_type_of : Ty → Option ScalarTy
 cell_type_of (ty.Scalar t) = Some t
 cell_type_of (ty.Object t) = Some scalar.Uuid
 cell_type_of (ty.Tuple' m ps) = None
+cell_type_of (ty.Array t) = None
 
 abbrev pub cell_type : Body → Option ScalarTy
 cell_type (body.Stored t) = cell_type_of t
 cell_type body.Computed = None
-
-abbrev pub name_if_known : Option PtrInfo → List ℕ
-name_if_known None = []
-name_if_known (Some info) = info.name
-
--- pointers with their names as keys
-abbrev pub named_pointers : List PtrInfo → List PtrId → List (Keyed PtrId)
-named_pointers pointers [] = []
-named_pointers pointers (p ∷ more) = record { keys = Some (made.Str (name_if_known (slice_get pointers p.0))) ∷ []; value = p } ∷ named_pointers pointers more
-
--- the pointers of a type but for `id`, in byte order of their names
-abbrev pub pointers_in_order : Schema → TypeId → List PtrId
-pointers_in_order s t = keyless (in_order by_name (named_pointers s.pointers (listed_pointers s.types t)))
 
 -- ---- tables
 

@@ -5,9 +5,7 @@ ghost use Rattle.sql_encode.specs.Shapes.{column as column_of, property_columns 
 ghost use Rattle.sql_encode.specs.Sources.{sources as sources_of};
 
 use crate::source::Source;
-use crate::sources::{
-    BY_NAME, cell_type, is_many, named, pointer_table, pointers_in_order, sources, type_name,
-};
+use crate::sources::{BY_NAME, cell_type, named, pointer_table, sources, type_name};
 use core_ir::{PtrId, TypeId};
 use ev_list::{Keyed, in_order, keyless};
 use ev_schema::{GlobalInfo, LinkProperty, PtrInfo, Schema};
@@ -46,7 +44,7 @@ fn add_properties(
 fn add_pointer(alloc: Global, info: &PtrInfo, columns: &mut List<Typed>) -> Result<(), AllocError>
     ensures { OnOk result (columns.new ≡ columns.old ++ pointer_columns_of (Some info.now)) }
 {
-    if is_many(info.card) {
+    if info.card.is_many() {
         return Ok(());
     }
     match cell_type(&info.body) {
@@ -81,7 +79,7 @@ fn type_shape(alloc: Global, schema: &Schema, ty: TypeId) -> Result<TableShape, 
     ensures { IfOk result (λ t. t ≡ type_shape_of schema.now ty) }
 {
     let name = type_name(alloc, schema.types.as_slice(), ty)?;
-    let listed = pointers_in_order(alloc, schema, ty)?;
+    let listed = schema.pointers_in_order(alloc, ty)?;
     let mut columns = List::new(alloc);
     columns.push(column(Text::from_str(alloc, "id")?, ScalarTy::Uuid))?;
     add_pointers(alloc, schema, listed.as_slice(), &mut columns)?;

@@ -3,7 +3,7 @@ ghost use Rattle.std.specs.Prelude.{◌≡◌, ◌∷◌, ◌++◌, [], map, fla
 ghost use Rattle.std.specs.Option.{option_copied};
 ghost use Rattle.sql_encode.specs.Rows.{property_cell as property_cell_of, property_cell_at as property_cell_at_of, property_cells as property_cells_of, first_target as first_target_of, value_cell as value_cell_of, target_cell as target_cell_of, is_link as is_link_body, single_cell as single_cell_of, pointer_cells as pointer_cells_of, type_row as type_row_of, target_rows as target_rows_of, value_rows as value_rows_of};
 
-use crate::sources::{cell_type, is_many};
+use crate::sources::cell_type;
 use core_ir::{PtrId, Ty};
 use db_store::{LinkValue, Object, Target};
 use ev_schema::{Body, LinkProperty, PtrInfo, Schema};
@@ -81,7 +81,7 @@ pub fn is_link(body: &Body) -> bool
 {
     match body {
         Body::Stored(Ty::Object(_)) => true,
-        Body::Stored(Ty::Scalar(_) | Ty::Tuple(_)) | Body::Computed => false,
+        Body::Stored(Ty::Scalar(_) | Ty::Tuple(_) | Ty::Array(_)) | Body::Computed => false,
     }
 }
 
@@ -111,7 +111,7 @@ fn add_pointer_cells(
 ) -> Result<(), AllocError>
     ensures { OnOk result (cells.new ≡ cells.old ++ pointer_cells_of (Some info.now) object.now pointer) }
 {
-    if is_many(info.card) {
+    if info.card.is_many() {
         return Ok(());
     }
     match cell_type(&info.body) {

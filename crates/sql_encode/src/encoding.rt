@@ -4,12 +4,12 @@ ghost use Rattle.std.specs.Option.{option_copied};
 ghost use Rattle.sql_table.specs.Names.{catalog_of as catalog_of_tables, rows_of_tables};
 ghost use Rattle.sql_encode.specs.Rows.{type_row as type_row_of, type_rows as type_rows_of, object_rows, pointer_rows as pointer_rows_of, rows_of as rows_of_source};
 ghost use Rattle.sql_encode.specs.Shapes.{catalog_of as catalog_of_schema};
-ghost use Rattle.sql_encode.specs.Sources.{pointers_in_order as pointers_in_order_of, sources as sources_of};
+ghost use Rattle.sql_encode.specs.Sources.{sources as sources_of};
 
 use crate::catalog::catalog_of;
 use crate::cells::{add_target_rows, add_value_rows, is_link, type_row};
 use crate::source::Source;
-use crate::sources::{pointers_in_order, sources};
+use crate::sources::sources;
 use core_ir::{PtrId, TypeId};
 use db_store::Object;
 use ev_schema::{PtrInfo, Schema};
@@ -27,7 +27,7 @@ fn type_rows(
 ) -> Result<Rows, AllocError>
     ensures { IfOk result (λ rs. rs ≡ type_rows_of schema.now objects.now ty) }
 {
-    let listed = pointers_in_order(alloc, schema, ty)?;
+    let listed = schema.pointers_in_order(alloc, ty)?;
     let listed = listed.as_slice();
     let mut rows = List::new(alloc);
     for object in objects {

@@ -2,10 +2,10 @@
 ghost use Rattle.std.specs.Prelude.{◌≡◌, ◌∷◌, ◌++◌, ◌<◌, ◌^◌, [], zero, length, codes, slice_get, Some, IfOk, OnOk};
 ghost use Rattle.std.specs.Option.{option_copied};
 ghost use Rattle.ev_value.specs.declared.value.Val.TheVariants as made;
-ghost use Rattle.sql_encode.specs.Sources.{is_many as is_many_card, cell_type_of, cell_type as cell_type_of_body, name_if_known, named_pointers as named_pointers_in, pointers_in_order as pointers_in_order_of, type_name as type_name_of, pointer_table as pointer_table_of, has_table as has_table_of, type_sources as type_sources_from, pointer_sources as pointer_sources_from, sources as sources_of};
+ghost use Rattle.sql_encode.specs.Sources.{cell_type_of, cell_type as cell_type_of_body, type_name as type_name_of, pointer_table as pointer_table_of, has_table as has_table_of, type_sources as type_sources_from, pointer_sources as pointer_sources_from, sources as sources_of};
 
 use crate::source::Source;
-use core_ir::{Card, PtrId, Ty, TypeId};
+use core_ir::{PtrId, Ty, TypeId};
 use ev_list::{Absent, Direction, KeyOrder, Keyed, in_order, keyless};
 use ev_schema::{Body, PtrInfo, Schema, TypeInfo};
 use ev_value::{List, ScalarTy, Text, Val};
@@ -18,16 +18,6 @@ pub const BY_NAME: KeyOrder = KeyOrder {
     absent: Absent::First,
 };
 
-/// Whether a pointer may have many values.
-pub fn is_many(card: Card) -> bool
-    ensures { result ≡ is_many_card card }
-{
-    match card {
-        Card::Empty | Card::AtMostOne | Card::One => false,
-        Card::AtLeastOne | Card::Many => true,
-    }
-}
-
 /// The type of a stored pointer's cells: that of a property, and of a link a uuid.
 pub fn cell_type(body: &Body) -> Option<ScalarTy>
     ensures { result ≡ cell_type_of_body body.now }
@@ -35,7 +25,7 @@ pub fn cell_type(body: &Body) -> Option<ScalarTy>
     match body {
         Body::Stored(Ty::Scalar(ty)) => Some(*ty),
         Body::Stored(Ty::Object(_)) => Some(ScalarTy::Uuid),
-        Body::Stored(Ty::Tuple(_)) | Body::Computed => None,
+        Body::Stored(Ty::Tuple(_) | Ty::Array(_)) | Body::Computed => None,
     }
 }
 
@@ -46,45 +36,6 @@ pub fn named<T: Drop>(alloc: Global, name: Text, value: T) -> Result<Keyed<T>, A
     let mut keys = List::new(alloc);
     keys.push(Some(Val::Str(name)))?;
     Ok(Keyed { keys, value })
-}
-
-/// The name of a pointer, if there is such a pointer.
-fn pointer_name(alloc: Global, pointers: &[PtrInfo], pointer: PtrId) -> Result<Text, AllocError>
-    ensures { IfOk result (λ t. t ≡ name_if_known (slice_get pointers.now pointer.0)) }
-{
-    match at(pointers, pointer.0 as usize) {
-        Some(info) => info.name.copied(alloc),
-        None => Text::from_str(alloc, ""),
-    }
-}
-
-/// Pointers with their names as keys.
-fn named_pointers(
-    alloc: Global,
-    pointers: &[PtrInfo],
-    listed: &[PtrId],
-) -> Result<List<Keyed<PtrId>>, AllocError>
-    ensures { IfOk result (λ l. l ≡ named_pointers_in pointers.now listed.now) }
-{
-    let mut all = List::new(alloc);
-    for pointer in listed {
-        let name = pointer_name(alloc, pointers, *pointer)?;
-        all.push(named(alloc, name, *pointer)?)?;
-    }
-    Ok(all)
-}
-
-/// The pointers of a type but for `id`, in byte order of their names.
-pub fn pointers_in_order(
-    alloc: Global,
-    schema: &Schema,
-    ty: TypeId,
-) -> Result<List<PtrId>, AllocError>
-    ensures { IfOk result (λ l. l ≡ pointers_in_order_of schema.now ty) }
-{
-    let listed = schema.listed_pointers(ty);
-    let all = named_pointers(alloc, schema.pointers.as_slice(), listed)?;
-    keyless(alloc, in_order(alloc, &[BY_NAME], all)?)
 }
 
 /// The name of a type, if there is such a type.
@@ -111,7 +62,7 @@ pub fn pointer_table(alloc: Global, schema: &Schema, info: &PtrInfo) -> Result<T
 fn has_table(info: &PtrInfo) -> bool
     ensures { result ≡ has_table_of info.now }
 {
-    if is_many(info.card) {
+    if info.card.is_many() {
         cell_type(&info.body).is_some()
     } else {
         false
