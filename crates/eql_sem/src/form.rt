@@ -6,7 +6,7 @@ use ev_value::{List, Text, Val};
 #[derive(Drop)]
 #[cycle(form)]
 pub enum Form {
-    /// A value as it is; of an object without a shape its id.
+    /// A value as it is, which is no tuple; of an object without a shape its id.
     Value(Val),
     /// The forms of a tuple's components.
     Tuple(List<Form>),

@@ -42,20 +42,27 @@ impl Printer {
             Val::Bool(false) => self.write("false"),
             Val::Id(id) => self.write(format!(in alloc; "id {id}")?.as_str()),
             Val::Obj(id) => self.write(format!(in alloc; "#{id}")?.as_str()),
-            Val::Tuple(parts) => self.values(alloc, parts.as_slice()),
+            Val::Tuple(parts) => self.values(alloc, parts.as_slice(), "(", ")"),
+            Val::Array(elements) => self.values(alloc, elements.as_slice(), "[", "]"),
         }
     }
 
     #[cycle(value)]
-    fn values(&mut self, alloc: Global, values: &[Val]) -> Result<(), AllocError> {
-        self.write("(")?;
+    fn values(
+        &mut self,
+        alloc: Global,
+        values: &[Val],
+        open: &str,
+        close: &str,
+    ) -> Result<(), AllocError> {
+        self.write(open)?;
         let mut first = true;
         for value in values {
             self.next(first)?;
             first = false;
             self.value(alloc, value)?;
         }
-        self.write(")")
+        self.write(close)
     }
 
     #[cycle(form)]

@@ -69,7 +69,7 @@ fn is_answered(
 }
 
 /// Whether a query gives that answer, where nothing is hidden.
-fn gives(alloc: Global, query: Made<Expr>, expected: &str) -> Made<bool> {
+pub fn gives(alloc: Global, query: Made<Expr>, expected: &str) -> Made<bool> {
     let schema = schema(alloc, Ok(List::new(alloc)), Ok(List::new(alloc)))?;
     is_answered(alloc, &schema, &nobody(alloc), query, expected)
 }
@@ -88,7 +88,7 @@ fn of_users(alloc: Global, step: Step) -> Made<Expr> {
     )
 }
 
-fn user_names(alloc: Global) -> Made<Expr> {
+pub fn user_names(alloc: Global) -> Made<Expr> {
     of_users(alloc, prop(NAME))
 }
 
@@ -197,7 +197,7 @@ fn bob(alloc: Global) -> Made<Expr> {
 }
 
 /// `1 // 0`
-fn by_zero(alloc: Global) -> Made<Expr> {
+pub fn by_zero(alloc: Global) -> Made<Expr> {
     operation(alloc, Op::FloorDiv, int(1), int(0))
 }
 
@@ -225,6 +225,20 @@ fn negative_limit(alloc: Global) -> Made<Expr> {
         limit,
     );
     statement(no_aliases(alloc), select)
+}
+
+/// `User offset o limit l`
+fn cut(alloc: Global, offset: Made<Expr>, limit: Made<Expr>) -> Made<Expr> {
+    let limit = clause(alloc, limit);
+    let select = selecting(alloc, users(alloc), no_clause(), no_keys(alloc), limit);
+    statement(no_aliases(alloc), behind(alloc, offset, select))
+}
+
+/// `with X := (1, 2) select X`
+fn named_tuple(alloc: Global) -> Made<Expr> {
+    let named = path(alloc, Root::Alias(1), no_steps(alloc));
+    let pair = tuple(alloc, int(1), int(2));
+    statement(alias(alloc, 1, pair), select_all(alloc, named))
 }
 
 /// `for u in User union (select u.name filter exists u.age)`
@@ -298,9 +312,9 @@ fn gives_to(alloc: Global, name: &str, query: Made<Expr>, expected: &str) -> Mad
 fn operators_walk_their_operands(rt: HostRuntime) -> Result<(), Fail> {
     let alloc = rt.alloc();
     assert!(rt; gives(alloc, sums(alloc), "[3,2]")?);
-    let first = operation(alloc, Op::Add, by_zero(alloc), no_ints(alloc));
+    let first = operation(alloc, Op::Add, by_zero(alloc), no_ints());
     assert!(rt; gives(alloc, plain(alloc, first), "[!2]")?);
-    let second = operation(alloc, Op::Add, no_ints(alloc), by_zero(alloc));
+    let second = operation(alloc, Op::Add, no_ints(), by_zero(alloc));
     assert!(rt; gives(alloc, plain(alloc, second), "[]")?);
     let other = choose(alloc, truth(false), by_zero(alloc), int(2));
     assert!(rt; gives(alloc, plain(alloc, other), "[2]")?);
@@ -349,8 +363,22 @@ fn statements_have_clauses(rt: HostRuntime) -> Result<(), Fail> {
     let names = "[{name:['Bob']},{name:['Cid']},{name:['Ann']}]";
     assert!(rt; gives(alloc, by_age(alloc), names)?);
     assert!(rt; gives(alloc, negative_limit(alloc), "[!7]")?);
+    let both = cut(alloc, int(-1), by_zero(alloc));
+    assert!(rt; gives(alloc, both, "[!7,!2]")?);
+    let both = cut(alloc, by_zero(alloc), int(-1));
+    assert!(rt; gives(alloc, both, "[!2,!7]")?);
+    assert!(rt; gives(alloc, cut(alloc, int(1), int(1)), "[#2]")?);
     assert!(rt; gives(alloc, names_of_aged(alloc), "['Ann','Cid']")?);
     assert!(rt; gives(alloc, unused_fault(alloc), "[!2]")?);
+    Ok(())
+}
+
+#[test]
+fn tuples_have_one_form(rt: HostRuntime) -> Result<(), Fail> {
+    let alloc = rt.alloc();
+    let pair = plain(alloc, tuple(alloc, int(1), int(2)));
+    assert!(rt; gives(alloc, pair, "[[1,2]]")?);
+    assert!(rt; gives(alloc, named_tuple(alloc), "[[1,2]]")?);
     Ok(())
 }
 

@@ -3,7 +3,7 @@
 use crate::together::{both, boxed, more, one};
 use core_ir::{
     Alias, Conditional, Element, Expr, Key, Occurrence, Order, Path, PtrId, Root, Scope, Select,
-    SetFunction, Step,
+    SetFunction, Step, Ty,
 };
 use ev_list::Absent;
 use ev_value::{Boxed, List, Op, ScalarTy, Text, Val};
@@ -61,7 +61,11 @@ pub fn global(alloc: Global, name: &str) -> Made<Expr> {
 
 pub fn scope(alloc: Global, body: Made<Expr>) -> Made<Scope> {
     let body = boxed(alloc, body)?;
-    Ok(Scope { start: 0, body })
+    Ok(Scope {
+        start: 0,
+        ty: None,
+        body,
+    })
 }
 
 /// An operator of two operands.
@@ -91,9 +95,8 @@ pub fn optional_equal(alloc: Global, left: Made<Expr>, right: Made<Expr>) -> Mad
 }
 
 /// `<int64>{}`
-pub fn no_ints(alloc: Global) -> Made<Expr> {
-    let nothing = boxed(alloc, Ok(Expr::Set(0, List::new(alloc))))?;
-    Ok(Expr::Cast(0, ScalarTy::Int64, nothing))
+pub fn no_ints() -> Made<Expr> {
+    Ok(Expr::EmptySet(0, Ty::Scalar(ScalarTy::Int64)))
 }
 
 /// `{first, second}`
@@ -105,6 +108,41 @@ pub fn set(alloc: Global, first: Made<Expr>, second: Made<Expr>) -> Made<Expr> {
 pub fn tuple(alloc: Global, first: Made<Expr>, second: Made<Expr>) -> Made<Expr> {
     let parts = more(one(alloc, first), second)?;
     Ok(Expr::Tuple(0, parts))
+}
+
+/// `[element]`
+pub fn array_of_one(alloc: Global, element: Made<Expr>) -> Made<Expr> {
+    let elements = one(alloc, element)?;
+    Ok(Expr::Array(0, None, elements))
+}
+
+/// `[first, second]`
+pub fn array_of_two(alloc: Global, first: Made<Expr>, second: Made<Expr>) -> Made<Expr> {
+    let elements = more(one(alloc, first), second)?;
+    Ok(Expr::Array(0, None, elements))
+}
+
+/// `<array<int64>>[]`
+pub fn empty_array(alloc: Global) -> Made<Expr> {
+    let elements = List::new(alloc);
+    Ok(Expr::Array(0, Some(ScalarTy::Int64), elements))
+}
+
+/// `<array<int64>>{}`
+pub fn no_arrays() -> Made<Expr> {
+    Ok(Expr::EmptySet(0, Ty::Array(ScalarTy::Int64)))
+}
+
+/// `<array<int64>>operand`
+pub fn array_cast(alloc: Global, operand: Made<Expr>) -> Made<Expr> {
+    let operand = boxed(alloc, operand)?;
+    Ok(Expr::ArrayCast(0, ScalarTy::Int64, operand))
+}
+
+/// `array_unpack(operand)`
+pub fn unpack(alloc: Global, operand: Made<Expr>) -> Made<Expr> {
+    let operand = boxed(alloc, operand)?;
+    Ok(Expr::Unpack(0, operand))
 }
 
 /// `value if condition else other`
@@ -148,7 +186,7 @@ pub fn shaped(
     elements: Made<List<Element>>,
 ) -> Made<Expr> {
     let (subject, elements) = both(boxed(alloc, subject), elements)?;
-    Ok(Expr::Shaped(0, subject, number, elements))
+    Ok(Expr::Shaped(0, subject, None, number, elements))
 }
 
 /// A scope as a clause.
@@ -181,12 +219,19 @@ pub fn selecting(
     let (subject, (filter, (keys, limit))) = both(boxed(alloc, subject), clauses)?;
     Ok(Select {
         subject,
+        ty: None,
         number: 1,
         filter,
         keys,
         offset: None,
         limit,
     })
+}
+
+/// The statement with an offset.
+pub fn behind(alloc: Global, offset: Made<Expr>, select: Made<Select>) -> Made<Select> {
+    let (offset, select) = both(clause(alloc, offset), select)?;
+    Ok(Select { offset, ..select })
 }
 
 pub fn no_aliases(alloc: Global) -> Made<List<Alias>> {
