@@ -14,11 +14,11 @@ import sys
 
 ROOT = pathlib.Path(__file__).resolve().parent.parent
 PAGE = ROOT / "docs" / "ARCHITECTURE.md"
-ROOTS = {"lib", "main", "tests", "Lib"}
+ROOTS = {"lib", "main", "Lib"}
 
 
 def stems(folder, pattern):
-    return {path.stem for path in folder.glob(pattern)} - ROOTS
+    return {path.stem for path in folder.glob(pattern) if not path.stem.endswith("tests")} - ROOTS
 
 
 def spec_name(name):
