@@ -1,6 +1,6 @@
 -- When a statement is well formed over a catalog: its form is one of the grammar, its names are known and stand once
 -- where they must, and its types suit.
-use Rattle.std.specs.Prelude.{◌≡◌, ◌≢◌, ◌≤◌, ℕ, suc, List, [], ◌∷◌, map, codes, ℤ, pos, ◌≤ℤ◌, Option, Some, None, slice_get, Contains, if◌then◌else◌}
+use Rattle.std.specs.Prelude.{◌≡◌, ◌≢◌, ◌≤◌, ℕ, suc, List, [], ◌∷◌, map, codes, pos, ◌≤ℤ◌, Option, Some, None, slice_get, Contains, if◌then◌else◌}
 use Rattle.std.specs.Str.{bytes_eq}
 use Rattle.ev_value.specs.declared.value.ScalarTy.{ScalarTy}
 use Rattle.sql_ast.specs.declared.catalog.Catalog.{Catalog}

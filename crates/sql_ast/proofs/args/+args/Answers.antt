@@ -1,4 +1,4 @@
-use Rattle.std.proofs.Common.{◌≡◌, ◌++◌, sym, ap, ◌∙◌, subst, append_assoc, OnOk}
+use Rattle.std.proofs.Common.{◌++◌, sym, ap, ◌∙◌}
 use Rattle.sql_ast.specs.Params.{args_of_core, args_of_expr, args_of_item}
 use Rattle.sql_ast.specs.ParamLists.{args_in_body, args_in_columns}
 use Rattle.sql_ast.proofs.ArgForms.{no_args, core_args, of_int, of_text, of_bool, of_uuid, of_null, of_column, of_global, of_table, of_all, of_distinct}
