@@ -1,5 +1,5 @@
 -- The numbers of types that names mean are below the number of types.
-use Rattle.std.proofs.Common.{◌≡◌, ◌⊎◌, ◌<◌, ◌≤◌, ◌^◌, ℕ, zero, suc, ◌+◌, Bool, true, false, List, [], ◌∷◌, ◌++◌, length, Option, Some, None, option_map, if◌then◌else◌, Contains, inl, inr, refl, sym, ap, subst, ◌∙◌, arith, length-append, codes}
+use Rattle.std.proofs.Common.{◌≡◌, ◌<◌, ◌≤◌, ◌^◌, ℕ, zero, suc, Bool, true, false, List, [], ◌∷◌, length, Option, Some, None, option_map, if◌then◌else◌, Contains, inl, inr, refl, sym, ap, subst, arith, codes}
 use Rattle.std.proofs.lemmas.List.Elements.{Contains-append_cases}
 use Rattle.std.specs.Str.{bytes_eq}
 use Rattle.ast.specs.declared.name.Name.{Name}
@@ -11,7 +11,7 @@ use Rattle.sdl_ast.specs.declared.declaration.Decl.TheVariants as decl
 use Rattle.schema_build.specs.declared.names.Meant.{Meant}
 use Rattle.schema_build.specs.declared.names.Meant.TheVariants as meant
 use Rattle.schema_build.specs.Lineage.{object_in, IsSmall, numbers_of, bases_of, at}
-use Rattle.schema_build.specs.Names.{place_of, scalar_named, as_scalar, as_object, or_object, behind, in_module, meaning_of}
+use Rattle.schema_build.specs.Names.{place_of, scalar_named, as_scalar, as_object, or_object, in_module, meaning_of}
 use Rattle.schema_build.specs.Search.{AreWithin}
 use Rattle.schema_build.specs.Twice.{type_names}
 use Rattle.schema_build.proofs.SearchLaws.{none_in, only}

@@ -1,5 +1,5 @@
 -- The lesser of bytes, however they are grouped.
-use Rattle.std.proofs.Common.{◌≡◌, ℕ, nat_lt, Bool, true, false, Option, Some, None, refl, if◌then◌else◌, min, ap, rules}
+use Rattle.std.proofs.Common.{◌≡◌, ℕ, Option, Some, None, refl, rules}
 use Rattle.schema_build.specs.Least.{sooner}
 
 pub sooner_none : (a : Option ℕ) → sooner a None ≡ a

@@ -6,3 +6,5 @@ pub mod BaseLaws
 pub mod VerdictLaws
 pub mod RepeatLaws
 pub mod ListLaws
+pub mod DefaultLaws
+pub mod NumberLaws

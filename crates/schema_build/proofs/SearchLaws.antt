@@ -1,11 +1,10 @@
 -- What a search for the types that a type extends keeps, and what it has found when nothing is pending.
 use Rattle.std.proofs.Common.{◌≡◌, ◌⊎◌, ◌<◌, ◌≤◌, ℕ, zero, suc, ◌+◌, Bool, true, false, List, [], ◌∷◌, ◌++◌, length, replicate, Option, Some, None, slice_get, set, Contains, inl, inr, refl, sym, ap, subst, ◌∙◌, arith, length-append, length-set, below_more}
 use Rattle.std.proofs.lemmas.List.{length-replicate}
-use Rattle.std.proofs.lemmas.List.Elements.{Contains-append_left, Contains-append_right, Contains-append_cases, Contains-push, Contains-push_cases}
-use Rattle.std.proofs.lemmas.Option.{slice_get_within}
+use Rattle.std.proofs.lemmas.List.Elements.{Contains-append_left, Contains-append_right, Contains-push, Contains-push_cases}
 use Rattle.core_ir.specs.declared.path.TypeId.{TypeId}
 use Rattle.schema_build.specs.Lineage.{at, IsBase, Extends, directly, through, Rises, IsLineage}
-use Rattle.schema_build.specs.Search.{AreWithin, IsFound, none_found, says_missing, is_missing, noted_if, noted, all_noted, found_from, missing, left_of, IsSearch}
+use Rattle.schema_build.specs.Search.{AreWithin, IsFound, none_found, says_missing, noted_if, noted, all_noted, found_from, missing, left_of, IsSearch}
 use Rattle.schema_build.specs.declared.lineage.Search.{Search}
 
 same_type : (a b : TypeId) → a.0 ≡ b.0 → a ≡ b

@@ -1,5 +1,5 @@
 -- Each answer of the code is due.
-use Rattle.std.proofs.Common.{◌≡◌, ◌⊎◌, ℕ, Bool, true, false, List, [], Option, Some, None, Result, Ok, Err, inl, inr, refl, sym, ap, subst, ◌∙◌}
+use Rattle.std.proofs.Common.{◌≡◌, ◌⊎◌, ℕ, Bool, true, false, List, Option, Some, None, Result, Err, inl, inr, refl, sym, ap, subst, ◌∙◌}
 use Rattle.std.specs.List.{list_any}
 use Rattle.core_ir.specs.declared.path.TypeId.{TypeId}
 use Rattle.ev_schema.specs.declared.schema.Schema.{Schema}
@@ -13,7 +13,7 @@ use Rattle.schema_build.specs.Lineage.{bases_of, AreLineages}
 use Rattle.schema_build.specs.Least.{least_of}
 use Rattle.schema_build.specs.Parts.{decls_of, foreign_module, has_unbuilt}
 use Rattle.schema_build.specs.Twice.{type_names}
-use Rattle.schema_build.specs.Verdict.{first_verdict, later_verdict, schema_of, told, IsTold, IsDue, IsLater, IsAnswerOf, IsAnswer}
+use Rattle.schema_build.specs.Verdict.{first_verdict, later_verdict, schema_of, IsTold, IsDue, IsLater, IsAnswerOf, IsAnswer}
 
 due_unbuilt : (b : Bool) (first : Option Broken) (ds : List Decl) (types : List (List ℕ)) → b ≡ true → IsDue b first ds types (Err refusal.Unbuilt)
 due_unbuilt true first ds types e = refl

@@ -1,5 +1,5 @@
 -- M2: names of types that are not known, or do not suit where they stand.
-use Rattle.std.specs.Prelude.{ℕ, Bool, true, false, not, ◌&&◌, List, Option, Some, None}
+use Rattle.std.specs.Prelude.{ℕ, Bool, true, false, not, List, Option, Some, None}
 use Rattle.ast.specs.declared.name.QualifiedName.{QualifiedName}
 use Rattle.sdl_ast.specs.declared.declaration.Decl.{Decl}
 use Rattle.sdl_ast.specs.declared.declaration.Decl.TheVariants as decl
@@ -12,7 +12,6 @@ use Rattle.sdl_ast.specs.declared.member.PointerKind.TheVariants as kind
 use Rattle.sdl_ast.specs.declared.item.Item.{Item}
 use Rattle.sdl_ast.specs.declared.item.Item.TheVariants as item
 use Rattle.schema_build.specs.declared.names.Meant.{Meant}
-use Rattle.schema_build.specs.declared.names.Meant.TheVariants as meant
 use Rattle.schema_build.specs.Least.{at_if, least_of}
 use Rattle.schema_build.specs.Names.{meaning_of, start_of, is_object, is_scalar}
 
@@ -38,15 +37,16 @@ module _ (types : List (List ℕ)) where
   unknown_body k (body.Stored q items) = at_if (not (takes k (meaning_of types q))) (start_of q)
   unknown_body k (body.Computed e) = None
 
+  -- a stored pointer of such a type
   abbrev pub unknown_member : Member → Option ℕ
   unknown_member (member.Pointer s p) = unknown_body p.kind p.body
   unknown_member (member.Policy s p) = None
   unknown_member (member.Index s e) = None
   unknown_member (member.Annotation a) = None
 
-  -- a link property of no scalar type
+  -- a link property whose type is unknown or does not suit the word before its name
   abbrev pub unknown_item : Item → Option ℕ
-  unknown_item (item.Property s p) = at_if (not (is_scalar (meaning_of types p.ty))) (start_of p.ty)
+  unknown_item (item.Property s p) = at_if (not (takes p.kind (meaning_of types p.ty))) (start_of p.ty)
   unknown_item (item.Constraint s c) = None
   unknown_item (item.Default s e) = None
   unknown_item (item.Deletion s d) = None

@@ -1,5 +1,5 @@
 -- Which types a type extends. M3: a type that extends itself. M4: names of pointers that are not one pointer.
-use Rattle.std.specs.Prelude.{◌≡◌, ◌↔◌, ◌<◌, ◌^◌, ℕ, suc, ◌||◌, ◌==◌, Bool, List, [], ◌∷◌, ◌++◌, length, map, Option, Some, None, slice_get}
+use Rattle.std.specs.Prelude.{◌≡◌, ◌↔◌, ◌<◌, ◌^◌, ℕ, suc, ◌||◌, Bool, List, [], ◌∷◌, ◌++◌, length, map, Option, Some, None, slice_get}
 use Rattle.std.specs.List.{list_any, Contains}
 use Rattle.std.specs.Str.{bytes_eq}
 use Rattle.ast.specs.declared.name.QualifiedName.{QualifiedName}
@@ -15,6 +15,7 @@ use Rattle.schema_build.specs.declared.names.Meant.TheVariants as meant
 use Rattle.schema_build.specs.Least.{at_if, sooner}
 use Rattle.schema_build.specs.Names.{meaning_of, is_among}
 
+-- the number of the object type that is meant, if one is
 abbrev pub object_in : Option Meant → List TypeId
 object_in (Some (meant.Object n)) = record { 0 = n } ∷ []
 object_in (Some (meant.Scalar s)) = []
@@ -38,6 +39,7 @@ module _ (types : List (List ℕ)) where
   bases_of (decl.Type s t ∷ more) = numbers_of t.bases ∷ bases_of more
   bases_of (decl.Global s g ∷ more) = bases_of more
 
+-- a list, or the empty one where there is none
 abbrev pub or_none : {A : Type 0} → Option (List A) → List A
 or_none None = []
 or_none (Some l) = l
@@ -68,6 +70,7 @@ IsLineage bases a line = Rises line × ((b : TypeId) → Contains line b ↔ Ext
 abbrev pub AreLineages : List (List TypeId) → List (List TypeId) → Type 0
 AreLineages bases lines = (length lines ≡ length bases) × ((a : TypeId) → a.0 < length bases → IsLineage bases a (at lines a.0))
 
+-- whether the type with a number is of its own lineage
 abbrev pub extends_itself : List (List TypeId) → ℕ → Bool
 extends_itself lines n = list_any (same_type (record { 0 = n })) (at lines n)
 
@@ -78,9 +81,11 @@ module _ (lines : List (List TypeId)) where
   circular_from n (decl.Type s t ∷ more) = sooner (at_if (extends_itself lines n) s.start) (circular_from (suc n) more)
   circular_from n (decl.Global s g ∷ more) = circular_from n more
 
+  -- M3: the least byte of a type that extends itself
   abbrev pub circular : List Decl → Option ℕ
   circular ds = circular_from 0 ds
 
+-- the name of a pointer
 abbrev pub pointer_name : Member → List (List ℕ)
 pointer_name (member.Pointer s p) = p.name.text ∷ []
 pointer_name (member.Policy s p) = []
@@ -121,5 +126,6 @@ module _ (names : List (List (List ℕ))) (lines : List (List TypeId)) where
   clashing_from n (decl.Type s t ∷ more) = sooner (at_if (clashes n) s.start) (clashing_from (suc n) more)
   clashing_from n (decl.Global s g ∷ more) = clashing_from n more
 
+-- M4: the least byte of a type whose names of pointers clash
 abbrev pub clashing : List (List TypeId) → List Decl → Option ℕ
 clashing lines ds = clashing_from (declared_names ds) lines 0 ds

@@ -9,13 +9,15 @@ use Rattle.sdl_ast.specs.declared.item.Item.{Item}
 use Rattle.sdl_ast.specs.declared.item.Item.TheVariants as item
 use Rattle.schema_build.specs.declared.names.Meant.{Meant}
 use Rattle.schema_build.specs.Least.{at_if, sooner}
-use Rattle.schema_build.specs.Names.{is_object, is_among}
+use Rattle.schema_build.specs.Names.{meaning_of, is_object, is_scalar, is_among}
 
+-- whether `required` is written
 abbrev pub is_required : Option Need → Bool
 is_required (Some need.Required) = true
 is_required (Some need.Optional) = false
 is_required None = false
 
+-- whether `multi` is written
 abbrev pub is_multi : Option Width → Bool
 is_multi (Some width.Multi) = true
 is_multi (Some width.Single) = false
@@ -33,13 +35,13 @@ property_name (item.Default s e) = []
 property_name (item.Deletion s d) = []
 property_name (item.Annotation a) = []
 
--- a link property of a pointer of a type that is not plain, or stands on a property
-abbrev pub misplaced_item : Option Meant → Item → Option ℕ
-misplaced_item m (item.Property s p) = at_if (not (is_plain p.qualifiers && is_object m)) s.start
-misplaced_item m (item.Constraint s c) = None
-misplaced_item m (item.Default s e) = None
-misplaced_item m (item.Deletion s d) = None
-misplaced_item m (item.Annotation a) = None
+-- A link property of a pointer of a type fails where it is not plain, is of no scalar type, or stands on a property.
+abbrev pub misplaced_item : List (List ℕ) → Option Meant → Item → Option ℕ
+misplaced_item types m (item.Property s p) = at_if (not (is_plain p.qualifiers && (is_scalar (meaning_of types p.ty) && is_object m))) s.start
+misplaced_item types m (item.Constraint s c) = None
+misplaced_item types m (item.Default s e) = None
+misplaced_item types m (item.Deletion s d) = None
+misplaced_item types m (item.Annotation a) = None
 
 -- a link property whose name is among those before it
 abbrev pub repeated_item : List (List ℕ) → Item → Option ℕ

@@ -1,5 +1,5 @@
 -- The rules that look at one declaration, member or item alone, and the least byte at which one fails in a text.
-use Rattle.std.specs.Prelude.{ℕ, Bool, true, false, List, [], ◌∷◌, Option, Some, None}
+use Rattle.std.specs.Prelude.{ℕ, List, [], Option, None}
 use Rattle.sdl_ast.specs.declared.declaration.Decl.{Decl}
 use Rattle.sdl_ast.specs.declared.declaration.Decl.TheVariants as decl
 use Rattle.sdl_ast.specs.declared.member.Member.{Member}
@@ -49,18 +49,21 @@ module _ (types : List (List ℕ)) where
   at_item rule.M11 t i = unsupported_item i
   at_item rule.M2 t i = unknown_item types i
   at_item rule.M5 t i = unsuited_item t i
-  at_item rule.M6 t i = misplaced_item t i
+  at_item rule.M6 t i = misplaced_item types t i
 
+  -- the least byte at which a rule fails in the braces of a pointer
   abbrev pub in_body : LocalRule → PointerBody → Option ℕ
   in_body r (body.Stored q items) = sooner (at_items r items) (least_of (at_item r (meaning_of types q)) items)
   in_body r (body.Computed e) = None
 
+  -- the least byte at which a rule fails in a member of a type
   abbrev pub in_member : LocalRule → Member → Option ℕ
   in_member r (member.Pointer s p) = sooner (at_member r (member.Pointer s p)) (in_body r p.body)
   in_member r (member.Policy s p) = at_member r (member.Policy s p)
   in_member r (member.Index s e) = at_member r (member.Index s e)
   in_member r (member.Annotation a) = at_member r (member.Annotation a)
 
+  -- the least byte at which a rule fails in a declaration
   abbrev pub in_decl : LocalRule → Decl → Option ℕ
   in_decl r (decl.Type s t) = sooner (at_decl r (decl.Type s t)) (least_of (in_member r) t.members)
   in_decl r (decl.Global s g) = at_decl r (decl.Global s g)

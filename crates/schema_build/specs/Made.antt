@@ -1,5 +1,5 @@
 -- The schema of a text that breaks no rule.
-use Rattle.std.specs.Prelude.{ℕ, zero, suc, ◌+◌, Bool, true, false, List, [], ◌∷◌, ◌++◌, length, map, flat_map, ℤ, Option, Some, None, option_map, option_and_then}
+use Rattle.std.specs.Prelude.{ℕ, zero, suc, ◌+◌, Bool, true, false, List, [], ◌∷◌, ◌++◌, length, flat_map, ℤ, Option, Some, None}
 use Rattle.ast.specs.declared.expression.Expr.{Expr}
 use Rattle.ast.specs.declared.name.QualifiedName.{QualifiedName}
 use Rattle.ast.specs.declared.shape.Qualifiers.{Qualifiers}
@@ -16,15 +16,12 @@ use Rattle.ev_value.specs.declared.value.ScalarTy.TheVariants as scalar
 use Rattle.ev_value.specs.declared.value.Val.{Val}
 use Rattle.ev_value.specs.declared.value.Val as val
 use Rattle.ev_value.specs.declared.value.Val.TheVariants as value
-use Rattle.ev_schema.specs.Facts.{made_of}
 use Rattle.ev_schema.specs.Policies.{by_name}
-use Rattle.ev_schema.specs.declared.pointer.Body.{Body}
 use Rattle.ev_schema.specs.declared.pointer.Body.TheVariants as stored
 use Rattle.ev_schema.specs.declared.pointer.Limit.{Limit}
 use Rattle.ev_schema.specs.declared.pointer.Limit.TheVariants as limit
 use Rattle.ev_schema.specs.declared.pointer.LinkProperty.{LinkProperty}
 use Rattle.ev_schema.specs.declared.pointer.PtrInfo.{PtrInfo}
-use Rattle.ev_schema.specs.declared.schema.Schema.{Schema}
 use Rattle.ev_schema.specs.declared.types.GlobalInfo.{GlobalInfo}
 use Rattle.ev_schema.specs.declared.types.TypeInfo.{TypeInfo}
 use Rattle.sdl_ast.specs.declared.declaration.Decl.{Decl}
@@ -46,6 +43,7 @@ use Rattle.schema_build.specs.Literal.{literal}
 use Rattle.schema_build.specs.Names.{meaning_of}
 use Rattle.schema_build.specs.Suits.{constraint_named}
 
+-- the bounds of what is required or not, and multi or not
 abbrev pub bounds : Bool → Bool → Card
 bounds false false = card.AtMostOne
 bounds false true = card.Many
@@ -68,6 +66,7 @@ scalar_of (Some (meant.Scalar s)) = s
 scalar_of (Some (meant.Object t)) = scalar.Str
 scalar_of None = scalar.Str
 
+-- a number, if the value is one
 abbrev pub number_in : Option Val → Option ℤ
 number_in (Some (val.Int z)) = Some z
 number_in _ = None
@@ -77,6 +76,7 @@ abbrev pub first_number : List Expr → Option ℤ
 first_number [] = None
 first_number (e ∷ more) = number_in (literal e)
 
+-- the value of a literal, if there is one
 abbrev pub value_in : Option Val → List Val
 value_in None = []
 value_in (Some v) = v ∷ []
@@ -97,6 +97,7 @@ bound_of constraining.MaxLen z = Some (limit.MaxLen z)
 bound_of constraining.Exclusive z = None
 bound_of constraining.OneOf z = None
 
+-- a constraint by a number, if there is one
 abbrev pub bound_if_some : Constraining → Option ℤ → Option Limit
 bound_if_some c None = None
 bound_if_some c (Some z) = bound_of c z
@@ -112,14 +113,17 @@ limit_of constraining.MaxExValue args = bound_if_some constraining.MaxExValue (f
 limit_of constraining.MinLen args = bound_if_some constraining.MinLen (first_number args)
 limit_of constraining.MaxLen args = bound_if_some constraining.MaxLen (first_number args)
 
+-- a constraint with its arguments, if its name is one
 abbrev pub limit_if_known : Option Constraining → List Expr → Option Limit
 limit_if_known None args = None
 limit_if_known (Some c) args = limit_of c args
 
+-- a constraint, if there is one
 abbrev pub limit_in : Option Limit → List Limit
 limit_in None = []
 limit_in (Some l) = l ∷ []
 
+-- the constraint that an item says, if it says one
 abbrev pub limit_at : Item → List Limit
 limit_at (item.Constraint s c) = limit_in (limit_if_known (constraint_named c.name.text) c.arguments)
 limit_at (item.Default s e) = []
@@ -132,6 +136,7 @@ abbrev pub limits_in : List Item → List Limit
 limits_in [] = []
 limits_in (i ∷ more) = limit_at i ++ limits_in more
 
+-- the default that an item says, if it says one
 abbrev pub default_at : Item → Option Val
 default_at (item.Default s e) = literal e
 default_at (item.Constraint s c) = None
@@ -139,14 +144,15 @@ default_at (item.Deletion s d) = None
 default_at (item.Annotation a) = None
 default_at (item.Property s p) = None
 
-abbrev pub or_later : Option Val → Option Val → Option Val
-or_later (Some v) later = Some v
-or_later None later = later
+-- what stands later, or else what stands before it
+abbrev pub or_before : Option Val → Option Val → Option Val
+or_before (Some v) before = Some v
+or_before None before = before
 
--- the first default of a pointer
+-- the last default of a pointer
 abbrev pub default_in : List Item → Option Val
 default_in [] = None
-default_in (i ∷ more) = or_later (default_at i) (default_in more)
+default_in (i ∷ more) = or_before (default_in more) (default_at i)
 
 -- what a schema says of a computed pointer, beside its expression
 abbrev pub computed_info : TypeId → Pointer → PtrInfo
@@ -165,6 +171,7 @@ abbrev pub keyed_property : List ℕ → ScalarTy → Keyed LinkProperty
 keyed_property name t = record { keys = Some (value.Str name) ∷ []; value = record { name = name; ty = t } }
 
 module _ (types : List (List ℕ)) where
+  -- the link property that an item says, if it says one
   abbrev pub property_at : Item → List (Keyed LinkProperty)
   property_at (item.Property s p) = keyed_property p.name.text (scalar_of (meaning_of types p.ty)) ∷ []
   property_at (item.Constraint s c) = []
@@ -172,6 +179,7 @@ module _ (types : List (List ℕ)) where
   property_at (item.Deletion s d) = []
   property_at (item.Annotation a) = []
 
+  -- the link properties of a pointer, in the order of the text
   abbrev pub properties_in : List Item → List (Keyed LinkProperty)
   properties_in [] = []
   properties_in (i ∷ more) = property_at i ++ properties_in more
@@ -197,6 +205,7 @@ module _ (types : List (List ℕ)) where
   pointer_info origin p (body.Stored q items) = stored_info origin p q items
   pointer_info origin p (body.Computed e) = computed_info origin p
 
+  -- the pointer that a member declares, if it declares one
   abbrev pub pointer_at : TypeId → Member → List PtrInfo
   pointer_at origin (member.Pointer s p) = pointer_info origin p p.body ∷ []
   pointer_at origin (member.Policy s p) = []
@@ -218,6 +227,7 @@ module _ (types : List (List ℕ)) where
   abbrev pub global_info : List ℕ → QualifiedName → GlobalInfo
   global_info name q = record { name = name; ty = scalar_of (meaning_of types q) }
 
+  -- the global that a declaration declares, if it declares one
   abbrev pub global_at : Decl → List GlobalInfo
   global_at (decl.Type s t) = []
   global_at (decl.Global s g) = global_info g.name.text g.ty ∷ []

@@ -33,6 +33,7 @@ scalar_named name =
     (if bytes_eq name (codes "bool") then Some scalar.Bool else
     (if bytes_eq name (codes "uuid") then Some scalar.Uuid else None)))
 
+-- a scalar type, if there is one
 abbrev pub as_scalar : Option ScalarTy → Option Meant
 as_scalar s = option_map meant.Scalar s
 
@@ -40,6 +41,7 @@ as_scalar s = option_map meant.Scalar s
 abbrev pub as_object : Option ℕ → Option Meant
 as_object place = option_map meant.Object place
 
+-- a scalar type, or else the object type at a place, if there is one
 abbrev pub or_object : Option ScalarTy → Option ℕ → Option Meant
 or_object (Some s) place = Some (meant.Scalar s)
 or_object None place = as_object place
@@ -64,14 +66,17 @@ abbrev pub start_in : Option Name → Name → ℕ
 start_in None n = n.span.start
 start_in (Some m) n = m.span.start
 
+-- where the name of a type stands, its module included
 abbrev pub start_of : QualifiedName → ℕ
 start_of q = start_in q.module q.name
 
+-- whether an object type is meant
 abbrev pub is_object : Option Meant → Bool
 is_object (Some (meant.Object t)) = true
 is_object (Some (meant.Scalar s)) = false
 is_object None = false
 
+-- whether a scalar type is meant
 abbrev pub is_scalar : Option Meant → Bool
 is_scalar (Some (meant.Scalar s)) = true
 is_scalar (Some (meant.Object t)) = false

@@ -1,5 +1,5 @@
 -- What a schema text declares, and what of it has no schema yet.
-use Rattle.std.specs.Prelude.{ℕ, Bool, true, false, List, [], ◌∷◌, ◌++◌, not, codes, flat_map, option_map, Option, Some, None}
+use Rattle.std.specs.Prelude.{ℕ, Bool, true, false, List, [], ◌∷◌, ◌++◌, not, codes, Option, None}
 use Rattle.std.specs.List.{list_any}
 use Rattle.std.specs.Str.{bytes_eq}
 use Rattle.sdl_ast.specs.Places.{decl_span}
@@ -10,10 +10,9 @@ use Rattle.sdl_ast.specs.declared.declaration.FilePart.TheVariants as part
 use Rattle.sdl_ast.specs.declared.declaration.TypeDecl.{TypeDecl}
 use Rattle.sdl_ast.specs.declared.member.Member.{Member}
 use Rattle.sdl_ast.specs.declared.member.Member.TheVariants as member
-use Rattle.sdl_ast.specs.declared.member.Pointer.{Pointer}
 use Rattle.sdl_ast.specs.declared.member.PointerBody.{PointerBody}
 use Rattle.sdl_ast.specs.declared.member.PointerBody.TheVariants as body
-use Rattle.schema_build.specs.Least.{at_if, least_of}
+use Rattle.schema_build.specs.Least.{at_if}
 
 -- the declarations of a part of a text
 abbrev pub decls_in : FilePart → List Decl
@@ -44,9 +43,11 @@ abbrev pub types_of : List Decl → List TypeDecl
 types_of [] = []
 types_of (d ∷ more) = type_in d ++ types_of more
 
+-- the name of a type
 abbrev pub name_of : TypeDecl → List ℕ
 name_of t = t.name.text
 
+-- whether a pointer has an expression
 abbrev pub is_computed : PointerBody → Bool
 is_computed (body.Computed e) = true
 is_computed (body.Stored t items) = false
@@ -58,6 +59,7 @@ is_unbuilt_member (member.Policy s p) = true
 is_unbuilt_member (member.Index s e) = false
 is_unbuilt_member (member.Annotation a) = false
 
+-- whether a declaration has a computed pointer or a policy
 abbrev pub has_unbuilt : Decl → Bool
 has_unbuilt (decl.Type s t) = list_any is_unbuilt_member t.members
 has_unbuilt (decl.Global s g) = false

@@ -1,5 +1,5 @@
 -- M10: names that are not free.
-use Rattle.std.specs.Prelude.{ℕ, Bool, true, false, ◌||◌, List, codes, eqb, is_some, Option, Some, None}
+use Rattle.std.specs.Prelude.{ℕ, Bool, ◌||◌, List, codes, eqb, is_some, Option, None}
 use Rattle.std.specs.List.{starts_with}
 use Rattle.std.specs.Str.{bytes_eq}
 use Rattle.sdl_ast.specs.declared.declaration.Decl.{Decl}

@@ -2,7 +2,7 @@
 use Rattle.std.specs.Prelude.{◌≡◌, ◌⊎◌, ◌<◌, ℕ, suc, ◌+◌, Bool, true, false, List, [], ◌∷◌, ◌++◌, length, replicate, Option, Some, None, slice_get, slice_set}
 use Rattle.std.specs.List.{Contains}
 use Rattle.core_ir.specs.declared.path.TypeId.{TypeId}
-use Rattle.schema_build.specs.Lineage.{at, IsBase, Extends}
+use Rattle.schema_build.specs.Lineage.{IsBase, Extends}
 use Rattle.schema_build.specs.declared.lineage.Search.{Search}
 
 -- each base has a number below that of the types
@@ -17,6 +17,7 @@ IsFound found t = slice_get found t.0 ≡ Some true
 abbrev pub none_found : ℕ → Search
 none_found count = record { found = replicate count false; pending = [] }
 
+-- whether there is such a type and its mark says that it is not found
 abbrev pub says_missing : Option Bool → Bool
 says_missing None = false
 says_missing (Some true) = false
@@ -26,6 +27,7 @@ says_missing (Some false) = true
 abbrev pub is_missing : List Bool → ℕ → Bool
 is_missing found n = says_missing (slice_get found n)
 
+-- a search that notes a type, if it was missing
 abbrev pub noted_if : Bool → Search → TypeId → Search
 noted_if true s t = record { found = slice_set s.found t.0 true; pending = s.pending ++ t ∷ [] }
 noted_if false s t = s
@@ -34,6 +36,7 @@ noted_if false s t = s
 abbrev pub noted : Search → TypeId → Search
 noted s t = noted_if (is_missing s.found t.0) s t
 
+-- a search that notes some types, one after the other
 abbrev pub all_noted : Search → List TypeId → Search
 all_noted s [] = s
 all_noted s (t ∷ more) = all_noted (noted s t) more

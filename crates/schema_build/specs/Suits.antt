@@ -5,7 +5,6 @@ use Rattle.std.specs.Str.{bytes_eq}
 use Rattle.ast.specs.declared.expression.Expr.{Expr}
 use Rattle.ev_value.specs.declared.value.ScalarTy.{ScalarTy}
 use Rattle.ev_value.specs.declared.value.ScalarTy.TheVariants as scalar
-use Rattle.sdl_ast.specs.declared.item.Constraint.{Constraint}
 use Rattle.sdl_ast.specs.declared.item.Item.{Item}
 use Rattle.sdl_ast.specs.declared.item.Item.TheVariants as item
 use Rattle.schema_build.specs.declared.names.Meant.{Meant}
@@ -41,6 +40,7 @@ is_literal_of (Some (meant.Scalar t)) e = is_of t (literal_type e)
 is_literal_of (Some (meant.Object o)) e = false
 is_literal_of None e = false
 
+-- whether a pointer is of a scalar type
 abbrev pub has_scalar : ScalarTy → Option Meant → Bool
 has_scalar t (Some (meant.Scalar s)) = is_of t (Some s)
 has_scalar t (Some (meant.Object o)) = false
@@ -52,6 +52,7 @@ is_one_number [] = false
 is_one_number (e ∷ []) = is_of scalar.Int64 (literal_type e)
 is_one_number (e ∷ f ∷ more) = false
 
+-- whether there are no arguments
 abbrev pub has_none : List Expr → Bool
 has_none [] = true
 has_none (e ∷ more) = false
@@ -68,6 +69,7 @@ suits m constraining.MinLen args = has_scalar scalar.Str m && is_one_number args
 suits m constraining.MaxLen args = has_scalar scalar.Str m && is_one_number args
 suits m constraining.OneOf args = not (has_none args) && list_all (is_literal_of m) args
 
+-- whether a constraint suits a pointer of a type; a name that is none does not
 abbrev pub suits_if_known : Option Meant → Option Constraining → List Expr → Bool
 suits_if_known m None args = false
 suits_if_known m (Some c) args = suits m c args

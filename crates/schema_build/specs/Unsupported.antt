@@ -1,5 +1,5 @@
 -- M11: what the schema language has and this one has not. Modules stand in `foreign_module`.
-use Rattle.std.specs.Prelude.{ℕ, Bool, true, false, not, ◌&&◌, List, [], ◌∷◌, codes, is_none, Option, Some, None}
+use Rattle.std.specs.Prelude.{ℕ, Bool, true, false, not, ◌&&◌, List, [], ◌∷◌, codes, is_none, Option, None}
 use Rattle.std.specs.Str.{str_eq_ignore_ascii_case}
 use Rattle.ast.specs.declared.name.Name.{Name}
 use Rattle.sdl_ast.specs.declared.member.Member.{Member}
@@ -19,10 +19,12 @@ unsupported_member (member.Policy s p) = None
 unsupported_member (member.Index s e) = None
 unsupported_member (member.Annotation a) = None
 
+-- the word `restrict`, in small or large letters
 abbrev pub says_restrict : DeletionWord → Bool
 says_restrict (word.Name n) = str_eq_ignore_ascii_case n.text (codes "restrict")
 says_restrict (word.Delete s) = false
 
+-- whether no word stands behind
 abbrev pub is_nothing : List Name → Bool
 is_nothing [] = true
 is_nothing (n ∷ more) = false

@@ -1,11 +1,10 @@
 -- Which rule a schema text breaks first, and where.
-use Rattle.std.specs.Prelude.{◌≡◌, ◌⊎◌, ℕ, nat_lt, Bool, true, false, List, [], ◌∷◌, Option, Some, None, Result, Ok, Err, if◌then◌else◌}
+use Rattle.std.specs.Prelude.{◌≡◌, ◌⊎◌, ℕ, nat_lt, Bool, true, false, List, [], Option, Some, None, Result, Ok, Err, if◌then◌else◌}
 use Rattle.std.specs.List.{list_any}
 use Rattle.core_ir.specs.declared.path.TypeId.{TypeId}
 use Rattle.ev_schema.specs.Facts.{made_of}
 use Rattle.ev_schema.specs.declared.schema.Schema.{Schema}
 use Rattle.sdl_ast.specs.declared.declaration.Decl.{Decl}
-use Rattle.sdl_ast.specs.declared.declaration.FilePart.{FilePart}
 use Rattle.sdl_ast.specs.declared.declaration.SdlFile.{SdlFile}
 use Rattle.schema_build.specs.declared.local.LocalRule.TheVariants as local
 use Rattle.schema_build.specs.declared.refusal.Rule.{Rule}
@@ -54,6 +53,7 @@ abbrev pub schema_of : List Decl → List (List ℕ) → List (List TypeId) → 
 schema_of ds types lines =
     made_of (infos_from (declared_numbers 0 (declared_names ds)) lines 0 ds) (pointers_from types 0 ds) (globals_of types ds) []
 
+-- a rule that fails, or else the schema
 abbrev pub told : Option Broken → Schema → Result Schema SchemaRefusal
 told None schema = Ok schema
 told (Some b) schema = Err (refusal.Build b)

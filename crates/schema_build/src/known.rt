@@ -70,13 +70,13 @@ pub fn unknown_member(types: &Names, member: &Member) -> Option<u32>
     }
 }
 
-/// A link property of no scalar type.
+/// A link property whose type is unknown or does not suit the word before its name.
 pub fn unknown_item(types: &Names, item: &Item) -> Option<u32>
     ensures { result ≡ spec.unknown_item types.now item.now }
 {
     match item {
         Item::Property(_, property) => at_if(
-            !is_scalar(types.meaning_of(&property.ty)),
+            !takes(property.kind, types.meaning_of(&property.ty)),
             start_of(&property.ty),
         ),
         Item::Constraint(_, _) => None,

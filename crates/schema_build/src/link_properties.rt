@@ -3,7 +3,7 @@ ghost use Rattle.std.specs.Prelude.{◌≡◌, ◌++◌, [], IfOk, OnOk};
 ghost use Rattle.schema_build.specs.LinkProperties as spec;
 
 use crate::least::{at_if, sooner};
-use crate::names::{Meant, Names, is_object};
+use crate::names::{Meant, Names, is_object, is_scalar};
 use ast::{Need, Qualifiers, Width};
 use sdl_ast::Item;
 use std::alloc::{AllocError, Global};
@@ -34,15 +34,16 @@ fn is_plain(qualifiers: Qualifiers) -> bool
     !(is_required(qualifiers.need) || is_multi(qualifiers.width))
 }
 
-/// A link property of a pointer of a type that is not plain, or stands on a property.
-pub fn misplaced_item(meant: Option<Meant>, item: &Item) -> Option<u32>
-    ensures { result ≡ spec.misplaced_item meant item.now }
+/// A link property of a pointer of a type that is not plain, is of no scalar type, or stands on a property.
+pub fn misplaced_item(types: &Names, meant: Option<Meant>, item: &Item) -> Option<u32>
+    ensures { result ≡ spec.misplaced_item types.now meant item.now }
 {
     match item {
-        Item::Property(span, property) => at_if(
-            !(is_plain(property.qualifiers) && is_object(meant)),
-            span.start,
-        ),
+        Item::Property(span, property) => {
+            let has_scalar = is_scalar(types.meaning_of(&property.ty));
+            let suits = is_plain(property.qualifiers) && (has_scalar && is_object(meant));
+            at_if(!suits, span.start)
+        }
         Item::Constraint(_, _) => None,
         Item::Default(_, _) => None,
         Item::Deletion(_, _) => None,

@@ -7,15 +7,22 @@ use ast::{Expr, UnaryOperator};
 use ev_value::{OpError, ScalarTy, Text, Val, cast};
 use std::alloc::{AllocError, Global};
 
-/// The digits of a number alone.
+/// The digits of a number alone, round which no parentheses stand.
 #[tactic(auto, using(crate::proofs::Forms::digits_of_int))]
-fn digits_of(expr: &Expr) -> Option<&Text>
-    ensures { option_copied result ≡ spec.digits_of expr.now }
+fn bare_digits(expr: &Expr) -> Option<&Text>
+    ensures { option_copied result ≡ spec.bare_digits expr.now }
 {
     match expr {
         Expr::Int(_, digits) => Some(digits),
         _ => None,
     }
+}
+
+/// The digits of a number alone.
+fn digits_of(expr: &Expr) -> Option<&Text>
+    ensures { option_copied result ≡ spec.digits_of expr.now }
+{
+    bare_digits(expr.bare())
 }
 
 fn signed_type(operator: UnaryOperator, operand: Option<&Text>) -> Option<ScalarTy>
@@ -27,10 +34,10 @@ fn signed_type(operator: UnaryOperator, operand: Option<&Text>) -> Option<Scalar
     }
 }
 
-/// The type of a literal.
+/// The type of a literal round which no parentheses stand.
 #[tactic(auto, using(crate::proofs::Forms::type_of_int, crate::proofs::Forms::type_of_str, crate::proofs::Forms::type_of_bool, crate::proofs::Forms::type_of_unary))]
-pub fn literal_type(expr: &Expr) -> Option<ScalarTy>
-    ensures { result ≡ spec.literal_type expr.now }
+fn bare_type(expr: &Expr) -> Option<ScalarTy>
+    ensures { result ≡ spec.bare_type expr.now }
 {
     match expr {
         Expr::Int(_, _) => Some(ScalarTy::Int64),
@@ -39,6 +46,13 @@ pub fn literal_type(expr: &Expr) -> Option<ScalarTy>
         Expr::Unary(_, operator, operand) => signed_type(*operator, digits_of(operand.get())),
         _ => None,
     }
+}
+
+/// The type of a literal.
+pub fn literal_type(expr: &Expr) -> Option<ScalarTy>
+    ensures { result ≡ spec.literal_type expr.now }
+{
+    bare_type(expr.bare())
 }
 
 fn number(alloc: Global, digits: &Text) -> Result<Option<Val>, AllocError>
@@ -86,10 +100,10 @@ fn signed(
     }
 }
 
-/// The value of a literal.
+/// The value of a literal round which no parentheses stand.
 #[tactic(auto, using(crate::proofs::Forms::value_of_int, crate::proofs::Forms::value_of_str, crate::proofs::Forms::value_of_bool, crate::proofs::Forms::value_of_unary))]
-pub fn literal(alloc: Global, expr: &Expr) -> Result<Option<Val>, AllocError>
-    ensures { IfOk result (λ v. v ≡ spec.literal expr.now) }
+fn bare_literal(alloc: Global, expr: &Expr) -> Result<Option<Val>, AllocError>
+    ensures { IfOk result (λ v. v ≡ spec.bare_literal expr.now) }
 {
     match expr {
         Expr::Int(_, digits) => number(alloc, digits),
@@ -98,4 +112,11 @@ pub fn literal(alloc: Global, expr: &Expr) -> Result<Option<Val>, AllocError>
         Expr::Unary(_, operator, operand) => signed(alloc, *operator, digits_of(operand.get())),
         _ => Ok(None),
     }
+}
+
+/// The value of a literal.
+pub fn literal(alloc: Global, expr: &Expr) -> Result<Option<Val>, AllocError>
+    ensures { IfOk result (λ v. v ≡ spec.literal expr.now) }
+{
+    bare_literal(alloc, expr.bare())
 }

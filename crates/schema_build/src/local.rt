@@ -52,7 +52,7 @@ fn at_item(types: &Names, rule: LocalRule, meant: Option<Meant>, item: &Item) ->
         LocalRule::M11 => unsupported_item(item),
         LocalRule::M2 => unknown_item(types, item),
         LocalRule::M5 => unsuited_item(meant, item),
-        LocalRule::M6 => misplaced_item(meant, item),
+        LocalRule::M6 => misplaced_item(types, meant, item),
     }
 }
 

@@ -189,16 +189,25 @@ fn default_at(alloc: Global, item: &Item) -> Result<Option<Val>, AllocError>
     }
 }
 
-/// The first default of a pointer.
+fn or_before(later: Option<Val>, before: Option<Val>) -> Option<Val>
+    ensures { result ≡ spec.or_before later before }
+{
+    match later {
+        Some(value) => Some(value),
+        None => before,
+    }
+}
+
+/// The last default of a pointer.
+#[tactic(auto, using(crate::proofs::DefaultLaws::or_before_none, crate::proofs::DefaultLaws::or_before_assoc))]
 fn default_in(alloc: Global, items: &[Item]) -> Result<Option<Val>, AllocError>
     ensures { IfOk result (λ v. v ≡ spec.default_in items.now) }
 {
+    let mut found = None;
     for item in items {
-        if let Some(value) = default_at(alloc, item)? {
-            return Ok(Some(value));
-        }
+        found = or_before(default_at(alloc, item)?, found);
     }
-    Ok(None)
+    Ok(found)
 }
 
 fn keyed_property(

@@ -15,7 +15,7 @@ pub enum Rule {
     M4,
     /// A constraint or a default does not suit the type of its pointer.
     M5,
-    /// A link property is not plain, stands on a property or is written twice.
+    /// A link property is not plain, is of no scalar type, stands on a property or is written twice.
     M6,
     /// A name is not free.
     M10,

@@ -1,6 +1,7 @@
 //! Which rule a schema text breaks first, and the schema of a text that breaks none.
-ghost use Rattle.std.specs.Prelude.{◌≡◌, ◌↔◌, ◌<◌, ◌^◌, [], length, IsTrue, IfOk};
+ghost use Rattle.std.specs.Prelude.{◌≡◌, ◌↔◌, ◌<◌, ◌+◌, ◌^◌, [], length, IsTrue, IfOk};
 ghost use Rattle.ev_schema.specs.Facts.{made_of};
+ghost use Rattle.ev_schema.specs.Numbered.{IsNumbered};
 ghost use Rattle.schema_build.specs.Lineage.{declared_names as declared_names_of};
 ghost use Rattle.schema_build.specs.Made.{count_of};
 ghost use Rattle.schema_build.specs.Twice.{repeats, type_names};
@@ -88,18 +89,19 @@ fn later_verdict(
     Ok(or_else(broken(Rule::M3, circular(lines, decls)), later))
 }
 
-/// Whether the pointers have numbers of 32 bits.
+/// Whether the pointers and `id` behind them have numbers of 32 bits.
 fn are_few(names: &[List<Text>]) -> bool
-    ensures { IsTrue result ↔ (count_of names.now < 2 ^ 32) }
+    ensures { IsTrue result ↔ (count_of names.now + 1 < 2 ^ 32) }
 {
     let mut count: usize = 0;
     for own in names {
         count = count.saturating_add(own.len());
     }
-    count <= u32::MAX as usize
+    count < u32::MAX as usize
 }
 
 /// The schema of declarations that break no rule. Pointers without numbers of 32 bits do not fit into memory.
+#[tactic(auto, using(crate::proofs::NumberLaws::schema_numbered))]
 fn schema_of(
     alloc: Global,
     types: &Names,
@@ -110,7 +112,8 @@ fn schema_of(
     requires types { length types.now < 2 ^ 32 }
     requires decls { length decls.now < 2 ^ 32 }
     requires names { names.now ≡ declared_names_of decls.now }
-    ensures { IfOk result (λ s. s ≡ spec.schema_of decls.now types.now lines.now) }
+    ensures schema { IfOk result (λ s. s ≡ spec.schema_of decls.now types.now lines.now) }
+    ensures numbered { IfOk result IsNumbered }
 {
     if !are_few(names) {
         return Err(AllocError);
@@ -131,7 +134,8 @@ fn built_along(
 ) -> Result<Schema, SchemaRefusal>
     requires types { length types.now < 2 ^ 32 }
     requires decls { length decls.now < 2 ^ 32 }
-    ensures { spec.IsTold (spec.later_verdict decls.now types.now lines.now) (spec.schema_of decls.now types.now lines.now) result }
+    ensures told { spec.IsTold (spec.later_verdict decls.now types.now lines.now) (spec.schema_of decls.now types.now lines.now) result }
+    ensures numbered { IfOk result IsNumbered }
 {
     let names = declared_names(alloc, decls)?;
     match later_verdict(alloc, types, lines, names.as_slice(), decls)? {
@@ -144,7 +148,8 @@ fn built_along(
 fn built_later(alloc: Global, types: &Names, decls: &[Decl]) -> Result<Schema, SchemaRefusal>
     requires types { types.now ≡ type_names decls.now }
     requires decls { length decls.now < 2 ^ 32 }
-    ensures { spec.IsLater decls.now types.now result }
+    ensures later { spec.IsLater decls.now types.now result }
+    ensures numbered { IfOk result IsNumbered }
 {
     let bases = bases_of(alloc, types, decls)?;
     let lines = lineages(alloc, bases.as_slice())?;
@@ -153,7 +158,8 @@ fn built_later(alloc: Global, types: &Names, decls: &[Decl]) -> Result<Schema, S
 
 fn built(alloc: Global, foreign: Option<u32>, decls: &[Decl]) -> Result<Schema, SchemaRefusal>
     requires { length decls.now < 2 ^ 32 }
-    ensures { spec.IsAnswerOf foreign decls.now result }
+    ensures answer { spec.IsAnswerOf foreign decls.now result }
+    ensures numbered { IfOk result IsNumbered }
 {
     if some_unbuilt(decls) {
         return Err(SchemaRefusal::Unbuilt);
@@ -166,10 +172,11 @@ fn built(alloc: Global, foreign: Option<u32>, decls: &[Decl]) -> Result<Schema, 
     }
 }
 
-/// The schema of a text (the EdgeDB documentation's pages on the schema language), or the first rule that it breaks.
-/// Declarations without numbers of 32 bits do not fit into memory.
+/// The schema of a text (the EdgeDB documentation's pages on the schema language), or the first rule that it breaks. Each of
+/// its types and pointers has a number of 32 bits: declarations that have none do not fit into memory.
 pub fn build(alloc: Global, file: SdlFile) -> Result<Schema, SchemaRefusal>
-    ensures { spec.IsAnswer file result }
+    ensures answer { spec.IsAnswer file result }
+    ensures numbered { IfOk result IsNumbered }
 {
     let foreign = foreign_modules(file.parts.as_slice());
     let decls = decls_of(alloc, file.parts)?;
@@ -180,8 +187,10 @@ pub fn build(alloc: Global, file: SdlFile) -> Result<Schema, SchemaRefusal>
 }
 
 /// The schema without types.
+#[tactic(auto, using(crate::proofs::NumberLaws::empty_numbered))]
 pub fn empty(alloc: Global) -> Result<Schema, AllocError>
-    ensures { IfOk result (λ s. s ≡ made_of [] [] [] []) }
+    ensures schema { IfOk result (λ s. s ≡ made_of [] [] [] []) }
+    ensures numbered { IfOk result IsNumbered }
 {
     Schema::from_parts(
         alloc,

@@ -2,7 +2,7 @@
 ghost use Rattle.std.specs.Prelude.{◌≡◌};
 ghost use Rattle.sdl_ast.specs.Places.{item_span};
 
-use crate::member::Annotation;
+use crate::member::{Annotation, PointerKind};
 use ast::{Expr, Name, QualifiedName, Qualifiers, Span};
 use ev_value::List;
 
@@ -44,6 +44,8 @@ pub enum DeletionWord {
 pub struct LinkProperty {
     pub overloaded: bool,
     pub qualifiers: Qualifiers,
+    /// The word `property` before the name, if it stands there.
+    pub kind: Option<PointerKind>,
     pub name: Name,
     pub ty: QualifiedName,
     pub annotations: List<Annotation>,

@@ -1,5 +1,5 @@
 -- The same members and items, by the word that they begin with: in this form one token to look at decides what comes next.
-use Rattle.std.specs.Prelude.{ℕ, true, false, Some, None}
+use Rattle.std.specs.Prelude.{ℕ, true, false, Some}
 use Rattle.ev_lex.specs.declared.token.Token.{Token}
 use Rattle.ev_lex.specs.declared.keyword.Keyword.TheVariants as keyword
 use Rattle.ast.specs.declared.name.Name.{Name}
@@ -26,7 +26,7 @@ use Rattle.exact.specs.Language.{Lang, ◌>>=◌, ◌>>◌, Empty, One, Either}
 module _ (high : ℕ → Bool) (Expr : Lang Token GrownExpr) where
   -- what stands behind the words of Quals and the word `name`, which is `property` or the property's name
   abbrev pub PropertyOf : ItemForm → Quals → Name → Lang Token Item
-  PropertyOf item_form.Property q name = Either (g.Propertied high Expr (bare_head q name)) (do own ← One name_of; g.Propertied high Expr (pointer_head q name.span.start None own))
+  PropertyOf item_form.Property q name = Either (g.Propertied high Expr (bare_head q name)) (do own ← One name_of; g.Propertied high Expr (pointer_head q name.span.start (Some pointer_kind.Property) own))
   PropertyOf _ q name = g.Propertied high Expr (bare_head q name)
 
   -- [property] Name (':' | '->') QName ('{' {Annot} '}' [';'] | ';'), behind the words of Quals

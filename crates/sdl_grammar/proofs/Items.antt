@@ -1,5 +1,5 @@
 -- The readers of values, annotations and items are exact for the grammar.
-use Rattle.std.proofs.Common.{ℕ, Bool, true, false, List, [], Some, None, refl}
+use Rattle.std.proofs.Common.{ℕ, Bool, true, false, List, [], Some, refl}
 use Rattle.ev_lex.specs.declared.token.Token.{Token}
 use Rattle.ev_lex.specs.declared.token.Sign.TheVariants as sign
 use Rattle.ev_lex.specs.declared.keyword.Keyword.TheVariants as keyword
@@ -16,6 +16,7 @@ use Rattle.exact.proofs.Heads.{Begins, never, begins_then, begins_either, avoids
 use Rattle.exact.proofs.Laws.{Open, IsExactAt, exact_pure, exact_then, exact_map, exact_lead, exact_choose, exact_chain, exact_alike}
 use Rattle.sdl_ast.specs.declared.member.Annotation.{Annotation}
 use Rattle.sdl_ast.specs.declared.item.Item.{Item}
+use Rattle.sdl_ast.specs.declared.member.PointerKind.TheVariants as pointer_kind
 use Rattle.sdl_ast.specs.declared.item.Item.TheVariants as item
 use Rattle.sdl_ast.specs.declared.item.DeletionWord.TheVariants as deletion_word
 use Rattle.sdl_grammar.specs.declared.form.ItemForm.{ItemForm}
@@ -80,7 +81,7 @@ module _ (high : ℕ → Bool) (L U : Lang Token GrownExpr) (P : Reader Token Gr
   exact_property_of : (form : ItemForm) (q : Quals) (name : Name) → IsExactAt Open (b.PropertyOf high L form q name) (b.PropertyOf unlimited U form q name) (r.property_of high P form q name) (λ _. is_sign sign.Semicolon)
   unfolding r.property_of r.property_word same_sign same_keyword
   exact_property_of item_form.Property q name =
-      exact_choose (exact_propertied (t.bare_head q name)) (exact_lead name_of some_name.token some_name.name some_name.known (λ own. exact_propertied (t.pointer_head q name.span.start None own)))
+      exact_choose (exact_propertied (t.bare_head q name)) (exact_lead name_of some_name.token some_name.name some_name.known (λ own. exact_propertied (t.pointer_head q name.span.start (Some pointer_kind.Property) own)))
       (propertied_begins (λ t e. rw e refl) (λ t e. rw e refl) (t.bare_head q name))
       (avoids_begun (begins_then (begins_name (λ o t e. rw e refl))))
   exact_property_of item_form.Overloaded q name = exact_propertied (t.bare_head q name)

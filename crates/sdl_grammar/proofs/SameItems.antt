@@ -1,5 +1,5 @@
 -- Items spell the same as they are written in the grammar and by their first word.
-use Rattle.std.proofs.Common.{◌≡◌, ℕ, ◌-◌, Bool, true, false, List, [], ◌∷◌, ◌++◌, length, Some, None, ap, inl, inr}
+use Rattle.std.proofs.Common.{◌≡◌, ℕ, ◌-◌, Bool, true, false, List, [], ◌∷◌, ◌++◌, length, Some, ap, inl, inr}
 use Rattle.ev_lex.specs.declared.token.Token.{Token}
 use Rattle.ev_lex.specs.declared.keyword.Keyword.{Keyword}
 use Rattle.ev_lex.specs.declared.keyword.Keyword.TheVariants as keyword
@@ -9,6 +9,7 @@ use Rattle.eql_grammar.specs.declared.grown.GrownExpr.{GrownExpr}
 use Rattle.eql_grammar.specs.Words.{is_word, word_class, word_of, name_of, text_of}
 use Rattle.exact.specs.Language.{Lang, Empty, One, Then, Either}
 use Rattle.sdl_ast.specs.declared.item.Item.{Item}
+use Rattle.sdl_ast.specs.declared.member.PointerKind.TheVariants as pointer_kind
 use Rattle.sdl_ast.specs.declared.item.Item.TheVariants as tree
 use Rattle.sdl_grammar.specs.declared.form.ItemForm.{ItemForm}
 use Rattle.sdl_grammar.specs.declared.form.ItemForm.TheVariants as item
@@ -53,15 +54,15 @@ module _ (high : ℕ → Bool) (Expr : Lang Token GrownExpr) where
 
   ByName : Quals → Lang Token Item
   ByName q =
-      Either (Then (One (word_of keyword.Property)) (λ at. Then (One name_of) (λ own. g.Propertied high Expr (pointer_head q at.start None own))))
+      Either (Then (One (word_of keyword.Property)) (λ at. Then (One name_of) (λ own. g.Propertied high Expr (pointer_head q at.start (Some pointer_kind.Property) own))))
       (Then (One name_of) (λ name. g.Propertied high Expr (bare_head q name)))
 
   by_name : (q : Quals) → Alike (Then (g.PropertyName q) (g.Propertied high Expr)) (ByName q)
   unfolding ByName
   by_name q =
-      alike_chain (alike_split (Then (One (word_of keyword.Property)) (λ at. Then (One name_of) (λ own. Empty (pointer_head q at.start None own)))) (Then (One name_of) (λ name. Empty (bare_head q name))) (g.Propertied high Expr))
+      alike_chain (alike_split (Then (One (word_of keyword.Property)) (λ at. Then (One name_of) (λ own. Empty (pointer_head q at.start (Some pointer_kind.Property) own)))) (Then (One name_of) (λ name. Empty (bare_head q name))) (g.Propertied high Expr))
       (alike_either
-      (alike_chain (alike_assoc (One (word_of keyword.Property)) (λ at. Then (One name_of) (λ own. Empty (pointer_head q at.start None own))) (g.Propertied high Expr)) (alike_behind (λ at. alike_map (One name_of) (pointer_head q at.start None) (g.Propertied high Expr))))
+      (alike_chain (alike_assoc (One (word_of keyword.Property)) (λ at. Then (One name_of) (λ own. Empty (pointer_head q at.start (Some pointer_kind.Property) own))) (g.Propertied high Expr)) (alike_behind (λ at. alike_map (One name_of) (pointer_head q at.start (Some pointer_kind.Property)) (g.Propertied high Expr))))
       (alike_map (One name_of) (bare_head q) (g.Propertied high Expr)))
 
   plain : (q : Quals) (f : ItemForm) (name : Name) (n : ℕ) (x : List Token) (c : Item) → g.Propertied high Expr (bare_head q name) n x c → b.PropertyOf high Expr f q name n x c
@@ -76,7 +77,7 @@ module _ (high : ℕ → Bool) (Expr : Lang Token GrownExpr) where
 
   property_to : (q : Quals) (n : ℕ) (x : List Token) (c : Item) → ByName q n x c → b.Property high Expr q n x c
   unfolding ByName
-  property_to q n x c (inl m) = worded keyword.Property item.Property item_Property (λ start. Then (One name_of) (λ own. g.Propertied high Expr (pointer_head q start None own))) (λ f name. b.PropertyOf high Expr f q name) (λ name n x c m. inr m) n x c m
+  property_to q n x c (inl m) = worded keyword.Property item.Property item_Property (λ start. Then (One name_of) (λ own. g.Propertied high Expr (pointer_head q start (Some pointer_kind.Property) own))) (λ f name. b.PropertyOf high Expr f q name) (λ name n x c m. inr m) n x c m
   property_to q n x c (inr m) = named (λ name. g.Propertied high Expr (bare_head q name)) (λ f name. b.PropertyOf high Expr f q name) (plain q) n x c m
 
   -- where the first token stands, with what is known of it
@@ -90,7 +91,7 @@ module _ (high : ℕ → Bool) (Expr : Lang Token GrownExpr) where
     property_by : (q : Quals) (f : ItemForm) (name : Name) → ItemWordAt t f name → b.PropertyOf high Expr f q name (n - length front) back c → ByName q n x c
     unfolding ByName
     property_by q item.Property name k (inl m) = inr (a_name (λ name. g.Propertied high Expr (bare_head q name)) name k.named m)
-    property_by q item.Property name k (inr m) = inl (keyworded keyword.Property (λ start. Then (One name_of) (λ own. g.Propertied high Expr (pointer_head q start None own))) name k.is k.named m)
+    property_by q item.Property name k (inr m) = inl (keyworded keyword.Property (λ start. Then (One name_of) (λ own. g.Propertied high Expr (pointer_head q start (Some pointer_kind.Property) own))) name k.is k.named m)
     property_by q item.Overloaded name k m = inr (a_name (λ name. g.Propertied high Expr (bare_head q name)) name k.named m)
     property_by q item.Constraint name k m = inr (a_name (λ name. g.Propertied high Expr (bare_head q name)) name k.named m)
     property_by q item.Delegated name k m = inr (a_name (λ name. g.Propertied high Expr (bare_head q name)) name k.named m)

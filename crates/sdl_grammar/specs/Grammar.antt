@@ -72,7 +72,7 @@ QualWords = do
 -- [property] Name, behind the words of Quals
 abbrev pub PropertyName : Quals → Lang Token PointerHead
 PropertyName q =
-    Either (do at ← One (word_of keyword.Property); name ← One name_of; Empty (pointer_head q at.start None name))
+    Either (do at ← One (word_of keyword.Property); name ← One name_of; Empty (pointer_head q at.start (Some pointer_kind.Property) name))
     (do name ← One name_of; Empty (bare_head q name))
 
 -- [property | link] Name, behind the words of Quals

@@ -97,9 +97,9 @@ bare_head q name = pointer_head q name.span.start None name
 
 -- ---- items
 
--- A property of a link: `property` before its name says nothing more.
+-- A property of a link.
 abbrev pub link_property : PointerHead → QualifiedName → NoteBlock → Item
-link_property head ty block = item.Property (bytes head.start block.end) (record { overloaded = head.overloaded; qualifiers = head.qualifiers; name = head.name; ty = ty; annotations = block.items })
+link_property head ty block = item.Property (bytes head.start block.end) (record { overloaded = head.overloaded; qualifiers = head.qualifiers; kind = head.kind; name = head.name; ty = ty; annotations = block.items })
 
 -- A constraint with its arguments.
 abbrev pub constraint : ℕ → Bool → Name → Bunch → Span → Item

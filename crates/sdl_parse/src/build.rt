@@ -147,6 +147,7 @@ pub fn link_property(head: PointerHead, ty: QualifiedName, block: NoteBlock) -> 
         LinkProperty {
             overloaded: head.overloaded,
             qualifiers: head.qualifiers,
+            kind: head.kind,
             name: head.name,
             ty,
             annotations: block.items,

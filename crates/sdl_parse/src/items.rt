@@ -20,7 +20,7 @@ use eql_grammar::Bunch;
 use ev_lex::{Keyword, Sign};
 use ev_value::List;
 use exact::ReadError;
-use sdl_ast::{DeletionWord, Item};
+use sdl_ast::{DeletionWord, Item, PointerKind};
 use sdl_grammar::{ItemBlock, ItemForm, ItemWord, PointerHead, Quals};
 use std::alloc::Global;
 
@@ -157,7 +157,8 @@ fn property_word(
     let start = name.span.start;
     discard(name);
     let own = tokens.name(alloc)?;
-    propertied(alloc, tokens, pointer_head(q, start, None, own))
+    let kind = Some(PointerKind::Property);
+    propertied(alloc, tokens, pointer_head(q, start, kind, own))
 }
 
 /// A property of a link behind the words of need and width.

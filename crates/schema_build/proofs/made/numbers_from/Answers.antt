@@ -1,4 +1,4 @@
-use Rattle.std.proofs.Common.{◌≡◌, ◌+◌, ◌∙◌, refl, sym, arith}
+use Rattle.std.proofs.Common.{◌∙◌, arith}
 use Rattle.schema_build.proofs.ListLaws.{numbers_added}
 use Rattle.schema_build.proofs.made.numbers_from.Goals as goal
 

@@ -1,7 +1,6 @@
 use Rattle.std.proofs.Common.{sym, ap, subst, ◌∙◌, ◌≡◌, length, arith}
 use Rattle.schema_build.specs.Lineage.{bases_of}
 use Rattle.schema_build.specs.Search.{AreWithin}
-use Rattle.schema_build.specs.Twice.{type_names}
 use Rattle.schema_build.proofs.BaseLaws.{bases_within, bases_counted, types_counted}
 use Rattle.schema_build.proofs.VerdictLaws.{told_later}
 use Rattle.schema_build.proofs.verdict.built_later.Goals as goal
@@ -21,7 +20,7 @@ lineages-requires-clause-within c =
 pub built_along-requires-clause-types : goal.built_along-requires-clause-types
 built_along-requires-clause-types c = omega (arith, ap length c.requires.types, types_counted c.args.decls.now, c.requires.decls)
 
-pub returns : goal.returns
-returns c =
+pub returns-clause-later : goal.returns-clause-later
+returns-clause-later c =
     told_later c.args.decls.now c.args.types.now c.as_slice.result.now c.in_ok-lines.lines c.as_slice-2.result.now c.built_along.result
-    (c.as_slice.ensures ∙ c.in_ok-bases.ensures) c.in_ok-lines.ensures c.as_slice-2.ensures c.built_along.ensures
+    (c.as_slice.ensures ∙ c.in_ok-bases.ensures) c.in_ok-lines.ensures c.as_slice-2.ensures c.built_along.ensures.told
