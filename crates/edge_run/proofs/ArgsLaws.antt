@@ -10,26 +10,19 @@ use Rattle.ev_schema.specs.declared.schema.Schema.{Schema}
 use Rattle.ev_value.specs.declared.args.Args.{Args}
 use Rattle.edge_run.specs.Args.{AreArgs, IsRefused, Decides}
 use Rattle.edge_run.specs.Judgement.{AsArgs, IsDecided}
-use Rattle.edge_run.specs.Limits.{IsShort, IsLong}
 use Rattle.edge_run.specs.Refusal.{Refusal, Usage, TooLong, Query}
 use Rattle.edge_run.specs.Refusal as refused
-use Rattle.edge_run.specs.declared.outcome.Doc.{Doc}
-use Rattle.edge_run.specs.declared.outcome.Doc.TheVariants as doc
 use Rattle.edge_run.specs.declared.outcome.Outcome.TheVariants as outcome
 use Rattle.edge_run.proofs.DataLaws.{one_value}
-use Rattle.edge_run.proofs.LimitLaws.{front, front_all, front_long, short_or_long, short_not_long}
 
 -- ---- what the code answers
 
-pub long : (s : Schema) (text : List ℕ) → IsLong doc.Args text → IsDecided (AsArgs s) text (Err (outcome.TooLong doc.Args))
-long s text more = inr (Err (TooLong doc.Args), (refl, more), refl)
+pub loaded_is_decided : (s : Schema) (text : List ℕ) (a : Args) → IsLoaded text s [] (Ok a) → IsDecided (AsArgs s) text (Ok a)
+loaded_is_decided s text a is = inr (Ok a, is, refl)
 
-pub loaded_is_decided : (s : Schema) (text : List ℕ) (a : Args) → IsShort doc.Args text → IsLoaded text s [] (Ok a) → IsDecided (AsArgs s) text (Ok a)
-loaded_is_decided s text a short is = inr (Ok a, record { short = short; loaded = is }, refl)
-
-pub refused_is_decided : (s : Schema) (text : List ℕ) (b : BrokenArgs) → IsShort doc.Args text → IsLoaded text s [] (Err (load.Rule b))
+pub refused_is_decided : (s : Schema) (text : List ℕ) (b : BrokenArgs) → IsLoaded text s [] (Err (load.Rule b))
     → IsDecided (AsArgs s) text (Err (outcome.ArgsRefused b))
-refused_is_decided s text b short is = inr (Err (refused.Args b), record { short = short; reason = is }, refl)
+refused_is_decided s text b is = inr (Err (refused.Args b), is, refl)
 
 -- ---- of each text at most one thing is decided
 
@@ -61,12 +54,12 @@ broken_stands : (b : BrokenArgs) → NotMemory (Err (load.Rule b))
 broken_stands b e = search rules
 
 args_or_broken : (s : Schema) (text : List ℕ) (a : Args) (b : BrokenArgs) → AreArgs s text a → IsRefused s text b → ⊥
-args_or_broken s text a b is is' = args_not_broken a b (one_load s text (Ok a) (Err (load.Rule b)) (args_stand a) (broken_stands b) is.loaded is'.reason)
+args_or_broken s text a b is is' = args_not_broken a b (one_load s text (Ok a) (Err (load.Rule b)) (args_stand a) (broken_stands b) is is')
 
 pub one_decision : (s : Schema) (text : List ℕ) (a b : Result Args Refusal) → Decides s text a → Decides s text b → a ≡ b
-one_decision s text (Ok a) (Ok b) is is' = ap Ok (args_are a b (one_load s text (Ok a) (Ok b) (args_stand a) (args_stand b) is.loaded is'.loaded))
+one_decision s text (Ok a) (Ok b) is is' = ap Ok (args_are a b (one_load s text (Ok a) (Ok b) (args_stand a) (args_stand b) is is'))
 one_decision s text (Ok a) (Err (Usage u)) is is' = absurd is'
-one_decision s text (Ok a) (Err (TooLong d)) is is' = absurd (short_not_long doc.Args text is.short is'.1)
+one_decision s text (Ok a) (Err (TooLong d)) is is' = absurd is'
 one_decision s text (Ok a) (Err (refused.Schema r)) is is' = absurd is'
 one_decision s text (Ok a) (Err (refused.Data b)) is is' = absurd is'
 one_decision s text (Ok a) (Err (Query r)) is is' = absurd is'
@@ -75,33 +68,13 @@ one_decision s text (Err (Usage u)) b is is' = absurd is
 one_decision s text (Err (refused.Schema r)) b is is' = absurd is
 one_decision s text (Err (refused.Data c)) b is is' = absurd is
 one_decision s text (Err (Query r)) b is is' = absurd is
-one_decision s text (Err (TooLong d)) (Ok b) is is' = absurd (short_not_long doc.Args text is'.short is.1)
-one_decision s text (Err (TooLong d)) (Err (Usage u)) is is' = absurd is'
-one_decision s text (Err (TooLong d)) (Err (TooLong e)) is is' = ap (λ (x : Doc). Err (TooLong x)) (is.0 ∙ sym is'.0)
-one_decision s text (Err (TooLong d)) (Err (refused.Schema r)) is is' = absurd is'
-one_decision s text (Err (TooLong d)) (Err (refused.Data b)) is is' = absurd is'
-one_decision s text (Err (TooLong d)) (Err (Query q)) is is' = absurd is'
-one_decision s text (Err (TooLong d)) (Err (refused.Args b)) is is' = absurd (short_not_long doc.Args text is'.short is.1)
+one_decision s text (Err (TooLong d)) b is is' = absurd is
 one_decision s text (Err (refused.Args b)) (Ok a) is is' = absurd (args_or_broken s text a b is' is)
 one_decision s text (Err (refused.Args b)) (Err (Usage u)) is is' = absurd is'
-one_decision s text (Err (refused.Args b)) (Err (TooLong d)) is is' = absurd (short_not_long doc.Args text is.short is'.1)
+one_decision s text (Err (refused.Args b)) (Err (TooLong d)) is is' = absurd is'
 one_decision s text (Err (refused.Args b)) (Err (refused.Schema r)) is is' = absurd is'
 one_decision s text (Err (refused.Args b)) (Err (refused.Data c)) is is' = absurd is'
 one_decision s text (Err (refused.Args b)) (Err (Query q)) is is' = absurd is'
 one_decision s text (Err (refused.Args b)) (Err (refused.Args c)) is is' =
     ap (λ (x : BrokenArgs). Err (refused.Args x))
-    (broken_is b c (one_load s text (Err (load.Rule b)) (Err (load.Rule c)) (broken_stands b) (broken_stands c) is.reason is'.reason))
-
--- what is decided of the first bytes, one more than the limit, is decided of the whole
-pub front_decides : (s : Schema) (text : List ℕ) (r : Result Args Refusal) → Decides s (front doc.Args text) r → Decides s text r
-front_decides s text r is = by_length text r (short_or_long doc.Args text) is
-  where
-    by_length : (t : List ℕ) (d : Result Args Refusal) → IsShort doc.Args t ⊎ IsLong doc.Args t → Decides s (front doc.Args t) d → Decides s t d
-    by_length t d (inl short) is = subst (λ u. Decides s u d) (front_all doc.Args t short) is
-    by_length t (Ok a) (inr more) is = absurd (short_not_long doc.Args _ is.short (front_long doc.Args t more))
-    by_length t (Err (Usage u)) (inr more) is = is
-    by_length t (Err (TooLong d)) (inr more) is = (is.0, more)
-    by_length t (Err (refused.Schema r)) (inr more) is = is
-    by_length t (Err (refused.Data r)) (inr more) is = is
-    by_length t (Err (Query q)) (inr more) is = is
-    by_length t (Err (refused.Args b)) (inr more) is = absurd (short_not_long doc.Args _ is.short (front_long doc.Args t more))
+    (broken_is b c (one_load s text (Err (load.Rule b)) (Err (load.Rule c)) (broken_stands b) (broken_stands c) is is'))

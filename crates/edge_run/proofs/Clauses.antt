@@ -4,7 +4,7 @@ use Rattle.ev_io.specs.Count.{Rose}
 use Rattle.ev_io.specs.Shelf.{ShelfView}
 use Rattle.ev_io.specs.Sink.{SinkView}
 use Rattle.ev_value.specs.declared.item.Fault.{Fault}
-use Rattle.edge_run.specs.Deliver.{Delivers, Tells, unwritten_of}
+use Rattle.edge_run.specs.Deliver.{Delivers, PutsLine, unwritten_of}
 use Rattle.edge_run.specs.Plan.{Plan, Goes, Verdict, Answers, Refuses, Faults, Missing, MayRefuse, MayRead, Comes}
 use Rattle.edge_run.specs.Refusal.{Refusal, Usage, TooLong, Schema, Data, Query, Args, told}
 use Rattle.edge_run.specs.Run.{Runs, Over, IsDue, IsCaused, IsComplete, IsAlong}
@@ -69,7 +69,7 @@ module _ (plan : Plan (List ℕ)) (shelf shelf' : ShelfView) (out out' err err' 
   Due o = IsDue plan shelf shelf' out out' err err' o
 
   abbrev Line : Outcome → Type 0
-  Line o = Tells o err err' result
+  Line o = PutsLine o err err' result
 
   -- an end that is due, and whose line was put or failed so
   due_caused : (o : Outcome) → Due o → out' ≡ out → Line o → Caused result

@@ -11,25 +11,18 @@ use Rattle.db_draft.specs.declared.refusal.DataRefusal.TheVariants as load
 use Rattle.db_check.specs.declared.store.Store.{Store}
 use Rattle.edge_run.specs.Data.{Decides}
 use Rattle.edge_run.specs.Judgement.{AsData, IsDecided}
-use Rattle.edge_run.specs.Limits.{IsShort, IsLong}
 use Rattle.edge_run.specs.Refusal.{Refusal, Usage, TooLong, Query, Args}
 use Rattle.edge_run.specs.Refusal as refused
-use Rattle.edge_run.specs.declared.outcome.Doc.{Doc}
-use Rattle.edge_run.specs.declared.outcome.Doc.TheVariants as doc
 use Rattle.edge_run.specs.declared.outcome.Outcome.TheVariants as outcome
-use Rattle.edge_run.proofs.LimitLaws.{front, front_all, front_long, short_or_long, short_not_long}
 
 -- ---- what the code answers
 
-pub long : (s : Schema) (text : List ℕ) → IsLong doc.Data text → IsDecided (AsData s) text (Err (outcome.TooLong doc.Data))
-long s text more = inr (Err (TooLong doc.Data), (refl, more), refl)
+pub loaded_is_decided : (s : Schema) (text : List ℕ) (store : Store) → IsLoaded text s (Ok store) → IsDecided (AsData s) text (Ok store)
+loaded_is_decided s text store is = inr (Ok store, is, refl)
 
-pub loaded_is_decided : (s : Schema) (text : List ℕ) (store : Store) → IsShort doc.Data text → IsLoaded text s (Ok store) → IsDecided (AsData s) text (Ok store)
-loaded_is_decided s text store short is = inr (Ok store, record { short = short; loaded = is }, refl)
-
-pub refused_is_decided : (s : Schema) (text : List ℕ) (b : Broken) → IsShort doc.Data text → IsLoaded text s (Err (load.Rule b))
+pub refused_is_decided : (s : Schema) (text : List ℕ) (b : Broken) → IsLoaded text s (Err (load.Rule b))
     → IsDecided (AsData s) text (Err (outcome.DataRefused b))
-refused_is_decided s text b short is = inr (Err (refused.Data b), record { short = short; reason = is }, refl)
+refused_is_decided s text b is = inr (Err (refused.Data b), is, refl)
 
 -- ---- of each text at most one thing is decided
 
@@ -67,45 +60,25 @@ broken_stands b e = search rules
 
 pub one_decision : (s : Schema) (text : List ℕ) (a b : Result Store Refusal) → Decides s text a → Decides s text b → a ≡ b
 one_decision s text (Ok a) (Ok b) is is' =
-    ap Ok (store_is a b (one_load s text (Ok a) (Ok b) (store_stands a) (store_stands b) is.loaded is'.loaded))
+    ap Ok (store_is a b (one_load s text (Ok a) (Ok b) (store_stands a) (store_stands b) is is'))
 one_decision s text (Ok a) (Err (Usage u)) is is' = absurd is'
-one_decision s text (Ok a) (Err (TooLong d)) is is' = absurd (short_not_long doc.Data text is.short is'.1)
+one_decision s text (Ok a) (Err (TooLong d)) is is' = absurd is'
 one_decision s text (Ok a) (Err (refused.Schema r)) is is' = absurd is'
 one_decision s text (Ok a) (Err (refused.Data b)) is is' =
-    absurd (store_not_broken a b (one_load s text (Ok a) (Err (load.Rule b)) (store_stands a) (broken_stands b) is.loaded is'.reason))
+    absurd (store_not_broken a b (one_load s text (Ok a) (Err (load.Rule b)) (store_stands a) (broken_stands b) is is'))
 one_decision s text (Ok a) (Err (Query r)) is is' = absurd is'
 one_decision s text (Ok a) (Err (Args r)) is is' = absurd is'
 one_decision s text (Err (Usage u)) b is is' = absurd is
 one_decision s text (Err (refused.Schema r)) b is is' = absurd is
 one_decision s text (Err (Query r)) b is is' = absurd is
 one_decision s text (Err (Args r)) b is is' = absurd is
-one_decision s text (Err (TooLong d)) (Ok b) is is' = absurd (short_not_long doc.Data text is'.short is.1)
-one_decision s text (Err (TooLong d)) (Err (Usage u)) is is' = absurd is'
-one_decision s text (Err (TooLong d)) (Err (TooLong e)) is is' = ap (λ (x : Doc). Err (TooLong x)) (is.0 ∙ sym is'.0)
-one_decision s text (Err (TooLong d)) (Err (refused.Schema r)) is is' = absurd is'
-one_decision s text (Err (TooLong d)) (Err (refused.Data b)) is is' = absurd (short_not_long doc.Data text is'.short is.1)
-one_decision s text (Err (TooLong d)) (Err (Query q)) is is' = absurd is'
-one_decision s text (Err (TooLong d)) (Err (Args q)) is is' = absurd is'
+one_decision s text (Err (TooLong d)) b is is' = absurd is
 one_decision s text (Err (refused.Data b)) (Ok a) is is' =
-    absurd (store_not_broken a b (one_load s text (Ok a) (Err (load.Rule b)) (store_stands a) (broken_stands b) is'.loaded is.reason))
+    absurd (store_not_broken a b (one_load s text (Ok a) (Err (load.Rule b)) (store_stands a) (broken_stands b) is' is))
 one_decision s text (Err (refused.Data b)) (Err (Usage u)) is is' = absurd is'
-one_decision s text (Err (refused.Data b)) (Err (TooLong d)) is is' = absurd (short_not_long doc.Data text is.short is'.1)
+one_decision s text (Err (refused.Data b)) (Err (TooLong d)) is is' = absurd is'
 one_decision s text (Err (refused.Data b)) (Err (refused.Schema r)) is is' = absurd is'
 one_decision s text (Err (refused.Data b)) (Err (refused.Data c)) is is' =
-    ap (λ (x : Broken). Err (refused.Data x)) (broken_is b c (one_load s text (Err (load.Rule b)) (Err (load.Rule c)) (broken_stands b) (broken_stands c) is.reason is'.reason))
+    ap (λ (x : Broken). Err (refused.Data x)) (broken_is b c (one_load s text (Err (load.Rule b)) (Err (load.Rule c)) (broken_stands b) (broken_stands c) is is'))
 one_decision s text (Err (refused.Data b)) (Err (Query q)) is is' = absurd is'
 one_decision s text (Err (refused.Data b)) (Err (Args q)) is is' = absurd is'
-
--- what is decided of the first bytes, one more than the limit, is decided of the whole
-pub front_decides : (s : Schema) (text : List ℕ) (r : Result Store Refusal) → Decides s (front doc.Data text) r → Decides s text r
-front_decides s text r is = by_length text r (short_or_long doc.Data text) is
-  where
-    by_length : (t : List ℕ) (d : Result Store Refusal) → IsShort doc.Data t ⊎ IsLong doc.Data t → Decides s (front doc.Data t) d → Decides s t d
-    by_length t d (inl short) is = subst (λ u. Decides s u d) (front_all doc.Data t short) is
-    by_length t (Ok store) (inr more) is = absurd (short_not_long doc.Data _ is.short (front_long doc.Data t more))
-    by_length t (Err (Usage u)) (inr more) is = is
-    by_length t (Err (TooLong d)) (inr more) is = (is.0, more)
-    by_length t (Err (refused.Schema r)) (inr more) is = is
-    by_length t (Err (refused.Data r)) (inr more) is = absurd (short_not_long doc.Data _ is.short (front_long doc.Data t more))
-    by_length t (Err (Query q)) (inr more) is = is
-    by_length t (Err (Args q)) (inr more) is = is

@@ -3,7 +3,7 @@ use Rattle.std.proofs.Common.{◌≡◌, ℕ, List, Option, Some, Result, Err, �
 use Rattle.ev_io.specs.Count.{Rose}
 use Rattle.ev_io.specs.Shelf.{ShelfView}
 use Rattle.ev_io.specs.Sink.{SinkView}
-use Rattle.edge_run.specs.Deliver.{Delivers, Tells}
+use Rattle.edge_run.specs.Deliver.{Delivers, PutsLine}
 use Rattle.edge_run.specs.Due.{Due}
 use Rattle.edge_run.specs.Headline.{IsDueFor, IsRefusal, IsCauseOf, IsHeadline, FailsToRead, IsExact}
 use Rattle.edge_run.specs.Ends.{ComesTo, Serves}
@@ -30,7 +30,7 @@ usage_ends u old new r (inr (e, is)) = inr e
 
 module _ (words : List (List ℕ)) (shelf shelf' : ShelfView) (out out' err err' : SinkView) (result : Outcome) where
   abbrev Line : Outcome → Type 0
-  Line o = (out' ≡ out) × Tells o err err' result
+  Line o = (out' ≡ out) × PutsLine o err err' result
 
   abbrev Headline : Outcome → Type 0
   Headline o = IsHeadline words shelf shelf' out out' err err' o

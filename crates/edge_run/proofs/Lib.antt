@@ -3,6 +3,7 @@ pub mod ArgsLaws
 pub mod Clauses
 pub mod DataLaws
 pub mod Decisions
+pub mod Documents
 pub mod DueLaws
 pub mod HeadlineLaws
 pub mod LimitLaws

@@ -68,6 +68,10 @@ then_err (Judge j text next) f old new o (inr (decided, is, first)) = inr (decid
 pub quiet : (s : ShelfView) → Quiet s s
 quiet s = record { holds = refl; call = refl; calm = record { keeps = omega arith; still = λ made e. refl } }
 
+-- memory ran out before anything was read
+pub ran_out : {A : Type 0} (p : Plan A) (s : ShelfView) → Goes p s (Err outcome.Memory) s
+ran_out p s = stopped p s s (Err outcome.Memory) (refl, quiet s)
+
 pub judged_goes : (j : Judgement) (text : List ℕ) (r : Result (Matter j) Outcome) (s : ShelfView) → IsDecided j text r → Goes (Judge j text ruled) s r s
 unfolding Goes ruled
 judged_goes j text r s (inl e) = inl (e, quiet s)

@@ -23,17 +23,15 @@ use Rattle.sdl_ast.specs.declared.declaration.SdlFile.{SdlFile}
 use Rattle.sdl_grammar.specs.Promise.{SchemaText, IsSchema}
 use Rattle.sdl_grammar.proofs.Promise as texts
 use Rattle.edge_run.specs.Judgement.{AsSchema, IsDecided}
-use Rattle.edge_run.specs.Limits.{IsShort, IsLong}
+use Rattle.edge_run.specs.Limits.{IsShort}
 use Rattle.edge_run.specs.Refusal.{Refusal, Usage, TooLong, Data, Query, Args}
 use Rattle.edge_run.specs.Refusal as refused
 use Rattle.edge_run.specs.Schema.{IsSpelled, IsBuilt, IsReason, Decides, IsTold, IsParsed, IsSurface, IsMade}
-use Rattle.edge_run.specs.declared.outcome.Doc.{Doc}
 use Rattle.edge_run.specs.declared.outcome.Doc.TheVariants as doc
 use Rattle.edge_run.specs.declared.outcome.Outcome.{Outcome}
 use Rattle.edge_run.specs.declared.outcome.Outcome.TheVariants as outcome
 use Rattle.edge_run.specs.declared.outcome.SchemaRefusal.{SchemaRefusal}
 use Rattle.edge_run.specs.declared.outcome.SchemaRefusal.TheVariants as refusal
-use Rattle.edge_run.proofs.LimitLaws.{front, front_all, front_long, short_or_long, short_not_long}
 use Rattle.edge_run.proofs.Lineages.{one_lineages}
 
 -- ---- what the code answers
@@ -46,31 +44,28 @@ surface text tokens (Ok file) cut is = (tokens, cut, is)
 surface text tokens (Err o) cut (inl e) = inl e
 surface text tokens (Err o) cut (inr (rule, token, why, e)) = inr (refusal.Syntax rule token, (tokens, cut, why), e)
 
-pub long : (text : List ℕ) → IsLong doc.Schema text → IsDecided AsSchema text (Err (outcome.TooLong doc.Schema))
-long text more = inr (Err (TooLong doc.Schema), (refl, more), refl)
+pub told_is_decided : (text : List ℕ) (o : Outcome) → IsTold text o → IsDecided AsSchema text (Err o)
+told_is_decided text o (inl e) = inl (ap Err e)
+told_is_decided text o (inr (r, reason, e)) = inr (Err (refused.Schema r), reason, ap Err e)
 
-pub told_is_decided : (text : List ℕ) (o : Outcome) → IsShort doc.Schema text → IsTold text o → IsDecided AsSchema text (Err o)
-told_is_decided text o short (inl e) = inl (ap Err e)
-told_is_decided text o short (inr (r, reason, e)) = inr (Err (refused.Schema r), record { short = short; reason = reason }, ap Err e)
-
-pub made_is_decided : (text : List ℕ) (file : SdlFile) (r : Result Schema Outcome) → IsShort doc.Schema text → IsSpelled text file → IsMade file r → IsDecided AsSchema text r
-made_is_decided text file (Ok schema) short spelled is = inr (Ok schema, record { short = short; surface = file; spelled = spelled; built = is }, refl)
-made_is_decided text file (Err outcome.Memory) short spelled is = inl refl
-made_is_decided text file (Err (outcome.SchemaRefused (refusal.Build broken))) short spelled is =
-    inr (Err (refused.Schema (refusal.Build broken)), record { short = short; reason = (file, spelled, is) }, refl)
-made_is_decided text file (Err (outcome.SchemaRefused refusal.Unbuilt)) short spelled is =
-    inr (Err (refused.Schema refusal.Unbuilt), record { short = short; reason = (file, spelled, is) }, refl)
-made_is_decided text file (Err (outcome.SchemaRefused (refusal.Lex byte))) short spelled is = absurd is
-made_is_decided text file (Err (outcome.SchemaRefused (refusal.Syntax rule token))) short spelled is = absurd is
-made_is_decided text file (Err outcome.Done) short spelled is = absurd is
-made_is_decided text file (Err (outcome.Usage u)) short spelled is = absurd is
-made_is_decided text file (Err (outcome.ReadFault d)) short spelled is = absurd is
-made_is_decided text file (Err (outcome.TooLong d)) short spelled is = absurd is
-made_is_decided text file (Err (outcome.WriteFault c)) short spelled is = absurd is
-made_is_decided text file (Err (outcome.DataRefused d)) short spelled is = absurd is
-made_is_decided text file (Err (outcome.QueryRefused q)) short spelled is = absurd is
-made_is_decided text file (Err (outcome.ArgsRefused d)) short spelled is = absurd is
-made_is_decided text file (Err (outcome.RunFault f)) short spelled is = absurd is
+pub made_is_decided : (text : List ℕ) (file : SdlFile) (r : Result Schema Outcome) → IsSpelled text file → IsMade file r → IsDecided AsSchema text r
+made_is_decided text file (Ok schema) spelled is = inr (Ok schema, record { surface = file; spelled = spelled; built = is }, refl)
+made_is_decided text file (Err outcome.Memory) spelled is = inl refl
+made_is_decided text file (Err (outcome.SchemaRefused (refusal.Build broken))) spelled is =
+    inr (Err (refused.Schema (refusal.Build broken)), (file, spelled, is), refl)
+made_is_decided text file (Err (outcome.SchemaRefused refusal.Unbuilt)) spelled is =
+    inr (Err (refused.Schema refusal.Unbuilt), (file, spelled, is), refl)
+made_is_decided text file (Err (outcome.SchemaRefused (refusal.Lex byte))) spelled is = absurd is
+made_is_decided text file (Err (outcome.SchemaRefused (refusal.Syntax rule token))) spelled is = absurd is
+made_is_decided text file (Err outcome.Done) spelled is = absurd is
+made_is_decided text file (Err (outcome.Usage u)) spelled is = absurd is
+made_is_decided text file (Err (outcome.ReadFault d)) spelled is = absurd is
+made_is_decided text file (Err (outcome.TooLong d)) spelled is = absurd is
+made_is_decided text file (Err (outcome.WriteFault c)) spelled is = absurd is
+made_is_decided text file (Err (outcome.DataRefused d)) spelled is = absurd is
+made_is_decided text file (Err (outcome.QueryRefused q)) spelled is = absurd is
+made_is_decided text file (Err (outcome.ArgsRefused d)) spelled is = absurd is
+made_is_decided text file (Err (outcome.RunFault f)) spelled is = absurd is
 
 -- ---- of each text at most one thing is decided
 
@@ -173,8 +168,8 @@ one_built text a c is is' =
 pub one_decision : (text : List ℕ) (a c : Result Schema Refusal) → Decides text a → Decides text c → a ≡ c
 one_decision text (Ok a) (Ok c) is is' = ap Ok (one_built text a c is is')
 one_decision text (Ok a) (Err (Usage u)) is is' = absurd is'
-one_decision text (Ok a) (Err (TooLong d)) is is' = absurd (short_not_long doc.Schema text is.short is'.1)
-one_decision text (Ok a) (Err (refused.Schema r)) is is' = absurd (built_or_refused text a r is is'.reason)
+one_decision text (Ok a) (Err (TooLong d)) is is' = absurd is'
+one_decision text (Ok a) (Err (refused.Schema r)) is is' = absurd (built_or_refused text a r is is')
 one_decision text (Ok a) (Err (Data d)) is is' = absurd is'
 one_decision text (Ok a) (Err (Query q)) is is' = absurd is'
 one_decision text (Ok a) (Err (Args q)) is is' = absurd is'
@@ -182,31 +177,11 @@ one_decision text (Err (Usage u)) c is is' = absurd is
 one_decision text (Err (Data d)) c is is' = absurd is
 one_decision text (Err (Query q)) c is is' = absurd is
 one_decision text (Err (Args q)) c is is' = absurd is
-one_decision text (Err (TooLong d)) (Ok c) is is' = absurd (short_not_long doc.Schema text is'.short is.1)
-one_decision text (Err (TooLong d)) (Err (Usage u)) is is' = absurd is'
-one_decision text (Err (TooLong d)) (Err (TooLong e)) is is' = ap (λ (x : Doc). Err (TooLong x)) (is.0 ∙ sym is'.0)
-one_decision text (Err (TooLong d)) (Err (refused.Schema r)) is is' = absurd (short_not_long doc.Schema text is'.short is.1)
-one_decision text (Err (TooLong d)) (Err (Data e)) is is' = absurd is'
-one_decision text (Err (TooLong d)) (Err (Query q)) is is' = absurd is'
-one_decision text (Err (TooLong d)) (Err (Args q)) is is' = absurd is'
-one_decision text (Err (refused.Schema r)) (Ok c) is is' = absurd (built_or_refused text c r is' is.reason)
+one_decision text (Err (TooLong d)) c is is' = absurd is
+one_decision text (Err (refused.Schema r)) (Ok c) is is' = absurd (built_or_refused text c r is' is)
 one_decision text (Err (refused.Schema r)) (Err (Usage u)) is is' = absurd is'
-one_decision text (Err (refused.Schema r)) (Err (TooLong d)) is is' = absurd (short_not_long doc.Schema text is.short is'.1)
-one_decision text (Err (refused.Schema r)) (Err (refused.Schema q)) is is' = ap (λ (x : SchemaRefusal). Err (refused.Schema x)) (one_reason text r q is.reason is'.reason)
+one_decision text (Err (refused.Schema r)) (Err (TooLong d)) is is' = absurd is'
+one_decision text (Err (refused.Schema r)) (Err (refused.Schema q)) is is' = ap (λ (x : SchemaRefusal). Err (refused.Schema x)) (one_reason text r q is is')
 one_decision text (Err (refused.Schema r)) (Err (Data d)) is is' = absurd is'
 one_decision text (Err (refused.Schema r)) (Err (Query q)) is is' = absurd is'
 one_decision text (Err (refused.Schema r)) (Err (Args q)) is is' = absurd is'
-
--- what is decided of the first bytes, one more than the limit, is decided of the whole
-pub front_decides : (text : List ℕ) (r : Result Schema Refusal) → Decides (front doc.Schema text) r → Decides text r
-front_decides text r is = by_length text r (short_or_long doc.Schema text) is
-  where
-    by_length : (t : List ℕ) (d : Result Schema Refusal) → IsShort doc.Schema t ⊎ IsLong doc.Schema t → Decides (front doc.Schema t) d → Decides t d
-    by_length t d (inl short) is = subst (λ u. Decides u d) (front_all doc.Schema t short) is
-    by_length t (Ok schema) (inr more) is = absurd (short_not_long doc.Schema _ is.short (front_long doc.Schema t more))
-    by_length t (Err (Usage u)) (inr more) is = is
-    by_length t (Err (TooLong d)) (inr more) is = (is.0, more)
-    by_length t (Err (refused.Schema r)) (inr more) is = absurd (short_not_long doc.Schema _ is.short (front_long doc.Schema t more))
-    by_length t (Err (Data b)) (inr more) is = is
-    by_length t (Err (Query q)) (inr more) is = is
-    by_length t (Err (Args q)) (inr more) is = is

@@ -1,27 +1,51 @@
 -- What the plan of a task comes to, against what is due for the task.
-use Rattle.std.proofs.Common.{◌≡◌, ℕ, ◌+◌, ◌<◌, codes, arith, List, [], ◌∷◌, take, Option, Some, None, Result, Ok, Err, ◌⊎◌, inl, inr, refl, sym, ◌∙◌, subst, rules}
-use Rattle.const_ir.specs.Meaning.{items}
+use Rattle.std.proofs.Common.{◌≡◌, ℕ, Bool, true, false, codes, List, [], ◌∷◌, Option, Some, None, Result, Ok, Err, ◌⊎◌, inl, inr, refl, sym, ◌∙◌, subst, rules}
 use Rattle.ev_value.specs.Item.{faults, values}
 use Rattle.ev_value.specs.declared.item.Fault.{Fault}
 use Rattle.ev_value.specs.declared.item.Item.{Item}
 use Rattle.ev_value.specs.declared.value.Val.{Val}
-use Rattle.edge_run.specs.Due.{Due, OfDocument, OfText, OfDecision, OfItems, OfArgs}
-use Rattle.edge_run.specs.Judgement.{Judgement, AsSchema, AsData, AsQuery, AsArgs, AsConst, Matter, Decides, doc_of}
-use Rattle.edge_run.specs.Limits.{limit_of}
-use Rattle.edge_run.specs.Modes.{answered, answer_text, census, judged_document, const_plan, counted_plan, check_plan, items_over, args_plan, answered_plan, queried_plan, stored_plan, run_plan}
+use Rattle.core_ir.specs.declared.tree.Scope.{Scope}
+use Rattle.ev_schema.specs.declared.schema.Schema.{Schema}
+use Rattle.db_check.specs.declared.store.Store.{Store}
+use Rattle.edge_run.specs.Due.{Due, OfDocument, OfLength, OfText, OfDecision, OfItems, OfArgs}
+use Rattle.edge_run.specs.Judgement.{Judgement, AsSchema, AsData, AsQuery, AsArgs, Matter, Decides, doc_of}
+use Rattle.edge_run.specs.Limits.{is_long}
+use Rattle.edge_run.specs.Modes.{answered, answer_text, census, judged_document, document, unless_long, const_plan, check_plan, items_over, args_plan, run_plan, no_types, no_args}
 use Rattle.edge_run.specs.Plan.{Plan, Answer, Fail, Judge, ◌>>=◌, ruled, Verdict, Answers, Faults, Missing, Comes, IfHeld, MayRefuse, MayRead}
-use Rattle.edge_run.specs.Refusal.{Refusal, Usage, TooLong, Schema, Data, Query, Args}
+use Rattle.edge_run.specs.Refusal.{Refusal, Usage, TooLong, Data, Query, Args}
+use Rattle.edge_run.specs.Refusal as refused
 use Rattle.edge_run.specs.Task.{Task, Const, Check, Run, Reads, Tells, TakesArgs, AreNamed}
 use Rattle.edge_run.specs.declared.outcome.Doc.{Doc}
 use Rattle.edge_run.specs.declared.outcome.Doc.TheVariants as doc
 use Rattle.edge_run.proofs.Answered.{faultless, faulty}
-use Rattle.edge_run.proofs.Decisions.{front_decides}
+use Rattle.edge_run.proofs.Documents.{answered as answered_text, refused, front_answered, front_refused}
+use Rattle.edge_run.proofs.LimitLaws.{front}
 
 -- the plan of a task
 abbrev pub plan_for : Task → Plan (List ℕ)
 plan_for (Const query) = const_plan query
 plan_for (Check schema_name data_name) = check_plan schema_name data_name
 plan_for (Run schema_name data_name query args) = run_plan schema_name data_name query args
+
+-- data of a schema, counted
+abbrev counted_plan : Schema → List ℕ → Plan (List ℕ)
+counted_plan schema name = judged_document (AsData schema) name >>= (λ store. Answer (census schema store))
+
+-- a query, once schema, objects and the tree are known
+abbrev answered_plan : Schema → Store → Scope → Option (List ℕ) → Plan (List ℕ)
+answered_plan schema store query args_name = args_plan schema args_name >>= (λ args. answered (items_over schema store.objects query args))
+
+-- the same, once schema and objects are known
+abbrev queried_plan : Schema → Store → List ℕ → Option (List ℕ) → Plan (List ℕ)
+queried_plan schema store query_name args_name = judged_document (AsQuery schema) query_name >>= (λ query. answered_plan schema store query args_name)
+
+-- the same, once the schema is known
+abbrev stored_plan : Schema → List ℕ → List ℕ → Option (List ℕ) → Plan (List ℕ)
+stored_plan schema data_name query_name args_name = judged_document (AsData schema) data_name >>= (λ store. queried_plan schema store query_name args_name)
+
+-- the items of mode `const`
+abbrev bare_items : Scope → List (Item Val)
+bare_items query = items_over no_types [] query no_args
 
 -- ---- what is due of an answer's items
 
@@ -64,23 +88,37 @@ unfolding Comes ruled ◌>>=◌
 ruled_due files (Ok a) f next v then c = then a c
 ruled_due files (Err r) f next v then c = c
 
+-- a text that was read, judged
+abbrev judged_text : (j : Judgement) → List ℕ → Plan (Matter j)
+judged_text j text = unless_long (doc_of j) text >>= (λ t. Judge j t ruled)
+
+read_due : (j : Judgement) (files : List ℕ → Option (List ℕ)) (text : List ℕ) (f : Matter j → Plan (List ℕ)) (next : Matter j → Verdict (List ℕ) → Type 0)
+    (v : Verdict (List ℕ)) → ((a : Matter j) → Comes files (f a) v → next a v) → (long : Bool) → is_long (doc_of j) text ≡ long
+    → Comes files (judged_text j (front (doc_of j) text) >>= f) v → OfLength long j text next v
+unfolding Comes ◌>>=◌
+read_due j files text f next v then true e c =
+    subst (λ (p : Plan (List ℕ)). Comes files ((p >>= (λ t. Judge j t ruled)) >>= f) v) (front_refused (doc_of j) text e) c
+read_due j files text f next v then false e c =
+    by (subst (λ (p : Plan (List ℕ)). Comes files ((p >>= (λ t. Judge j t ruled)) >>= f) v) (front_answered (doc_of j) text e) c)
+  where
+    by : Comes files ((Answer text >>= (λ t. Judge j t ruled)) >>= f) v → OfText j text next v
+    by (decided, is, later) = (decided, is, ruled_due files decided f next v then later)
+
 found_due : (j : Judgement) (files : List ℕ → Option (List ℕ)) (f : Matter j → Plan (List ℕ)) (next : Matter j → Verdict (List ℕ) → Type 0) (v : Verdict (List ℕ))
     → ((a : Matter j) → Comes files (f a) v → next a v) → (held : Option (List ℕ))
-    → IfHeld (v ≡ Missing (doc_of j))
-    (λ text. (decided : Result (Matter j) Refusal) × Decides j (take (limit_of (doc_of j) + 1) text) decided × Comes files (ruled decided >>= f) v) held
-    → OfDocument j held next v
+    → IfHeld (v ≡ Missing (doc_of j)) (λ text. Comes files (judged_text j (front (doc_of j) text) >>= f) v) held → OfDocument j held next v
 found_due j files f next v then None c = c
-found_due j files f next v then (Some text) (decided, is, c) = (decided, front_decides j text decided is, ruled_due files decided f next v then c)
+found_due j files f next v then (Some text) c = read_due j files text f next v then (is_long (doc_of j) text) refl c
 
 -- What is due of a document, where what is due over what it stands for is known.
 document_due : (j : Judgement) (files : List ℕ → Option (List ℕ)) (name : List ℕ) (f : Matter j → Plan (List ℕ)) (next : Matter j → Verdict (List ℕ) → Type 0)
     (v : Verdict (List ℕ)) → ((a : Matter j) → Comes files (f a) v → next a v) → Comes files (judged_document j name >>= f) v → OfDocument j (files name) next v
-unfolding Comes judged_document ◌>>=◌
+unfolding Comes judged_document document ◌>>=◌
 document_due j files name f next v then c = found_due j files f next v then (files name) c
 
-counted_due : (files : List ℕ → Option (List ℕ)) (schema : _) (name : List ℕ) (v : Verdict (List ℕ)) → Comes files (counted_plan schema name) v
+counted_due : (files : List ℕ → Option (List ℕ)) (schema : Schema) (name : List ℕ) (v : Verdict (List ℕ)) → Comes files (counted_plan schema name) v
     → OfDocument (AsData schema) (files name) (λ store w. w ≡ Answers (census schema store)) v
-unfolding counted_plan Comes
+unfolding Comes
 counted_due files schema name v c =
     document_due (AsData schema) files name (λ store. Answer (census schema store)) (λ store w. w ≡ Answers (census schema store)) v (λ store is. is) c
 
@@ -89,7 +127,7 @@ text_due : (j : Judgement) (files : List ℕ → Option (List ℕ)) (text : List
 unfolding Comes ◌>>=◌
 text_due j files text f next v then (decided, is, c) = (decided, is, ruled_due files decided f next v then c)
 
-args_due : (files : List ℕ → Option (List ℕ)) (schema : _) (name : Option (List ℕ)) (f : Matter (AsArgs schema) → Plan (List ℕ))
+args_due : (files : List ℕ → Option (List ℕ)) (schema : Schema) (name : Option (List ℕ)) (f : Matter (AsArgs schema) → Plan (List ℕ))
     (next : Matter (AsArgs schema) → Verdict (List ℕ) → Type 0) (v : Verdict (List ℕ)) → ((a : Matter (AsArgs schema)) → Comes files (f a) v → next a v)
     → Comes files (args_plan schema name >>= f) v → OfArgs schema files name next v
 unfolding args_plan
@@ -97,28 +135,25 @@ args_due files schema None f next v then c = text_due (AsArgs schema) files (cod
 args_due files schema (Some name) f next v then c = document_due (AsArgs schema) files name f next v then c
 
 -- what is due of a query over some objects
-abbrev QueryDue : (schema : Matter AsSchema) → Matter (AsData schema) → (List ℕ → Option (List ℕ)) → List ℕ → Option (List ℕ) → Verdict (List ℕ) → Type 0
+abbrev QueryDue : Schema → Store → (List ℕ → Option (List ℕ)) → List ℕ → Option (List ℕ) → Verdict (List ℕ) → Type 0
 QueryDue schema store files query_name args_name v =
-    OfDocument (AsQuery schema) (files query_name) (λ query. OfArgs schema files args_name (λ args. OfItems (items_over schema store query args))) v
+    OfDocument (AsQuery schema) (files query_name) (λ query. OfArgs schema files args_name (λ args. OfItems (items_over schema store.objects query args))) v
 
-answered_due : (files : List ℕ → Option (List ℕ)) (schema : _) (store : _) (query : _) (args_name : Option (List ℕ)) (v : Verdict (List ℕ))
-    → Comes files (answered_plan schema store query args_name) v → OfArgs schema files args_name (λ args. OfItems (items_over schema store query args)) v
-unfolding answered_plan
+answered_due : (files : List ℕ → Option (List ℕ)) (schema : Schema) (store : Store) (query : Scope) (args_name : Option (List ℕ)) (v : Verdict (List ℕ))
+    → Comes files (answered_plan schema store query args_name) v → OfArgs schema files args_name (λ args. OfItems (items_over schema store.objects query args)) v
 answered_due files schema store query args_name v c =
-    args_due files schema args_name (λ args. answered (items_over schema store query args)) (λ args. OfItems (items_over schema store query args)) v
-    (λ args. items_due files (items_over schema store query args) v) c
+    args_due files schema args_name (λ args. answered (items_over schema store.objects query args)) (λ args. OfItems (items_over schema store.objects query args)) v
+    (λ args. items_due files (items_over schema store.objects query args) v) c
 
-queried_due : (files : List ℕ → Option (List ℕ)) (schema : _) (store : _) (query_name : List ℕ) (args_name : Option (List ℕ)) (v : Verdict (List ℕ))
+queried_due : (files : List ℕ → Option (List ℕ)) (schema : Schema) (store : Store) (query_name : List ℕ) (args_name : Option (List ℕ)) (v : Verdict (List ℕ))
     → Comes files (queried_plan schema store query_name args_name) v → QueryDue schema store files query_name args_name v
-unfolding queried_plan
 queried_due files schema store query_name args_name v c =
     document_due (AsQuery schema) files query_name (λ query. answered_plan schema store query args_name)
-    (λ query. OfArgs schema files args_name (λ args. OfItems (items_over schema store query args))) v (λ query. answered_due files schema store query args_name v) c
+    (λ query. OfArgs schema files args_name (λ args. OfItems (items_over schema store.objects query args))) v (λ query. answered_due files schema store query args_name v) c
 
-stored_due : (files : List ℕ → Option (List ℕ)) (schema : _) (data_name query_name : List ℕ) (args_name : Option (List ℕ)) (v : Verdict (List ℕ))
+stored_due : (files : List ℕ → Option (List ℕ)) (schema : Schema) (data_name query_name : List ℕ) (args_name : Option (List ℕ)) (v : Verdict (List ℕ))
     → Comes files (stored_plan schema data_name query_name args_name) v
     → OfDocument (AsData schema) (files data_name) (λ store. QueryDue schema store files query_name args_name) v
-unfolding stored_plan
 stored_due files schema data_name query_name args_name v c =
     document_due (AsData schema) files data_name (λ store. queried_plan schema store query_name args_name) (λ store. QueryDue schema store files query_name args_name) v
     (λ store. queried_due files schema store query_name args_name v) c
@@ -127,7 +162,7 @@ stored_due files schema data_name query_name args_name v c =
 pub comes_due : (t : Task) (files : List ℕ → Option (List ℕ)) (v : Verdict (List ℕ)) → Comes files (plan_for t) v → Due t files v
 unfolding const_plan check_plan run_plan
 comes_due (Const query) files v c =
-    document_due AsConst files query (λ tree. answered (items tree)) (λ tree. OfItems (items tree)) v (λ tree. items_due files (items tree) v) c
+    document_due (AsQuery no_types) files query (λ tree. answered (bare_items tree)) (λ tree. OfItems (bare_items tree)) v (λ tree. items_due files (bare_items tree) v) c
 comes_due (Check schema_name data_name) files v c =
     document_due AsSchema files schema_name (λ schema. counted_plan schema data_name)
     (λ schema. OfDocument (AsData schema) (files data_name) (λ store w. w ≡ Answers (census schema store))) v
@@ -143,39 +178,33 @@ comes_due (Run schema_name data_name query_name args_name) files v c =
 abbrev TellsOf : Judgement → Refusal → Type 0
 TellsOf j (Usage u) = ⊥
 TellsOf j (TooLong d) = d ≡ doc_of j
-TellsOf j (Schema r) = doc.Schema ≡ doc_of j
+TellsOf j (refused.Schema r) = doc.Schema ≡ doc_of j
 TellsOf j (Data b) = doc.Data ≡ doc_of j
 TellsOf j (Query r) = doc.Query ≡ doc_of j
 TellsOf j (Args b) = doc.Args ≡ doc_of j
 
 decided_tells : (j : Judgement) (text : List ℕ) (x : Refusal) → Decides j text (Err x) → TellsOf j x
 decided_tells AsSchema text (Usage u) is = is
-decided_tells AsSchema text (TooLong d) is = is.0
-decided_tells AsSchema text (Schema r) is = refl
+decided_tells AsSchema text (TooLong d) is = absurd is
+decided_tells AsSchema text (refused.Schema r) is = refl
 decided_tells AsSchema text (Data b) is = absurd is
 decided_tells AsSchema text (Query r) is = absurd is
 decided_tells AsSchema text (Args b) is = absurd is
 decided_tells (AsData s) text (Usage u) is = is
-decided_tells (AsData s) text (TooLong d) is = is.0
-decided_tells (AsData s) text (Schema r) is = absurd is
+decided_tells (AsData s) text (TooLong d) is = absurd is
+decided_tells (AsData s) text (refused.Schema r) is = absurd is
 decided_tells (AsData s) text (Data b) is = refl
 decided_tells (AsData s) text (Query r) is = absurd is
 decided_tells (AsData s) text (Args b) is = absurd is
-decided_tells AsConst text (Usage u) is = is
-decided_tells AsConst text (TooLong d) is = is.0
-decided_tells AsConst text (Schema r) is = absurd is
-decided_tells AsConst text (Data b) is = absurd is
-decided_tells AsConst text (Query r) is = refl
-decided_tells AsConst text (Args b) is = absurd is
 decided_tells (AsQuery s) text (Usage u) is = is
-decided_tells (AsQuery s) text (TooLong d) is = is.0
-decided_tells (AsQuery s) text (Schema r) is = absurd is
+decided_tells (AsQuery s) text (TooLong d) is = absurd is
+decided_tells (AsQuery s) text (refused.Schema r) is = absurd is
 decided_tells (AsQuery s) text (Data b) is = absurd is
 decided_tells (AsQuery s) text (Query r) is = refl
 decided_tells (AsQuery s) text (Args b) is = absurd is
 decided_tells (AsArgs s) text (Usage u) is = is
-decided_tells (AsArgs s) text (TooLong d) is = is.0
-decided_tells (AsArgs s) text (Schema r) is = absurd is
+decided_tells (AsArgs s) text (TooLong d) is = absurd is
+decided_tells (AsArgs s) text (refused.Schema r) is = absurd is
 decided_tells (AsArgs s) text (Data b) is = absurd is
 decided_tells (AsArgs s) text (Query r) is = absurd is
 decided_tells (AsArgs s) text (Args b) is = refl
@@ -186,10 +215,20 @@ unfolding MayRefuse ruled ◌>>=◌
 ruled_refuses j text (Ok a) f x is may = inr (a, may)
 ruled_refuses j text (Err r) f x is may = inl (subst (TellsOf j) (sym may) (decided_tells j text r is))
 
+read_refuses : {A : Type 0} (j : Judgement) (text : List ℕ) (f : Matter j → Plan A) (x : Refusal) (long : Bool) → is_long (doc_of j) text ≡ long
+    → MayRefuse (judged_text j text >>= f) x → TellsOf j x ⊎ ((a : Matter j) × MayRefuse (f a) x)
+unfolding MayRefuse ◌>>=◌
+read_refuses j text f x true e may =
+    inl (subst (TellsOf j) (sym (subst (λ (p : Plan (List ℕ)). MayRefuse ((p >>= (λ t. Judge j t ruled)) >>= f) x) (refused (doc_of j) text e) may)) refl)
+read_refuses j text f x false e may = by (subst (λ (p : Plan (List ℕ)). MayRefuse ((p >>= (λ t. Judge j t ruled)) >>= f) x) (answered_text (doc_of j) text e) may)
+  where
+    by : MayRefuse ((Answer text >>= (λ t. Judge j t ruled)) >>= f) x → TellsOf j x ⊎ ((a : Matter j) × MayRefuse (f a) x)
+    by (decided, is, later) = ruled_refuses j text decided f x is later
+
 document_refuses : {A : Type 0} (j : Judgement) (name : List ℕ) (f : Matter j → Plan A) (x : Refusal) → MayRefuse (judged_document j name >>= f) x
     → TellsOf j x ⊎ ((a : Matter j) × MayRefuse (f a) x)
-unfolding MayRefuse judged_document ◌>>=◌
-document_refuses j name f x (text, (decided, is, may)) = ruled_refuses j text decided f x is may
+unfolding MayRefuse judged_document document ◌>>=◌
+document_refuses j name f x (text, may) = read_refuses j text f x (is_long (doc_of j) text) refl may
 
 ruled_reads : {A : Type 0} (j : Judgement) (decided : Result (Matter j) Refusal) (f : Matter j → Plan A) (d : Doc) → MayRead (ruled decided >>= f) d
     → (a : Matter j) × MayRead (f a) d
@@ -197,11 +236,20 @@ unfolding MayRead ruled ◌>>=◌
 ruled_reads j (Ok a) f d may = (a, may)
 ruled_reads j (Err r) f d may = absurd may
 
+read_reads : {A : Type 0} (j : Judgement) (text : List ℕ) (f : Matter j → Plan A) (d : Doc) (long : Bool) → is_long (doc_of j) text ≡ long
+    → MayRead (judged_text j text >>= f) d → (a : Matter j) × MayRead (f a) d
+unfolding MayRead ◌>>=◌
+read_reads j text f d true e may = absurd (subst (λ (p : Plan (List ℕ)). MayRead ((p >>= (λ t. Judge j t ruled)) >>= f) d) (refused (doc_of j) text e) may)
+read_reads j text f d false e may = by (subst (λ (p : Plan (List ℕ)). MayRead ((p >>= (λ t. Judge j t ruled)) >>= f) d) (answered_text (doc_of j) text e) may)
+  where
+    by : MayRead ((Answer text >>= (λ t. Judge j t ruled)) >>= f) d → (a : Matter j) × MayRead (f a) d
+    by (decided, is, later) = ruled_reads j decided f d later
+
 document_reads : {A : Type 0} (j : Judgement) (name : List ℕ) (f : Matter j → Plan A) (d : Doc) → MayRead (judged_document j name >>= f) d
     → (d ≡ doc_of j) ⊎ ((a : Matter j) × MayRead (f a) d)
-unfolding MayRead judged_document ◌>>=◌
+unfolding MayRead judged_document document ◌>>=◌
 document_reads j name f d (inl e) = inl e
-document_reads j name f d (inr (text, (decided, is, may))) = inr (ruled_reads j decided f d may)
+document_reads j name f d (inr (text, may)) = inr (read_reads j text f d (is_long (doc_of j) text) refl may)
 
 items_end : (xs : List (Item Val)) → (answered xs ≡ Answer (answer_text (values xs))) ⊎ (answered xs ≡ Fail (faults xs))
 items_end xs = by (fault_first (faults xs))
@@ -244,20 +292,18 @@ takes_args (Run schema_name data_name query_name args_name) reads = tt
 tells_at : (t : Task) (j : Judgement) (x : Refusal) → Reads t (doc_of j) → TellsOf j x → Tells t x
 tells_at t j (Usage u) reads tells = tells
 tells_at t j (TooLong d) reads tells = subst (Reads t) (sym tells) reads
-tells_at t j (Schema r) reads tells = subst (Reads t) (sym tells) reads
+tells_at t j (refused.Schema r) reads tells = subst (Reads t) (sym tells) reads
 tells_at t j (Data b) reads tells = subst (Reads t) (sym tells) reads
 tells_at t j (Query r) reads tells = subst (Reads t) (sym tells) reads
 tells_at t j (Args b) reads tells = takes_args t (subst (Reads t) (sym tells) reads)
 
-counted_refuses : (t : Task) (schema : _) (name : List ℕ) (x : Refusal) → Reads t doc.Data → MayRefuse (counted_plan schema name) x → Tells t x
-unfolding counted_plan
+counted_refuses : (t : Task) (schema : Schema) (name : List ℕ) (x : Refusal) → Reads t doc.Data → MayRefuse (counted_plan schema name) x → Tells t x
 counted_refuses t schema name x reads may = elim (document_refuses (AsData schema) name (λ store. Answer (census schema store)) x may) [
   | inl tells ↦ tells_at t (AsData schema) x reads tells
   | inr later ↦ absurd (answer_refuses (census schema later.0) x later.1)
 ]
 
-counted_reads : (schema : _) (name : List ℕ) (d : Doc) → MayRead (counted_plan schema name) d → d ≡ doc.Data
-unfolding counted_plan
+counted_reads : (schema : Schema) (name : List ℕ) (d : Doc) → MayRead (counted_plan schema name) d → d ≡ doc.Data
 counted_reads schema name d may = elim (document_reads (AsData schema) name (λ store. Answer (census schema store)) d may) [
   | inl e ↦ e
   | inr later ↦ absurd (answer_reads (census schema later.0) d later.1)
@@ -268,28 +314,22 @@ module _ (schema_name data_name query_name : List ℕ) where
   abbrev Asked : Option (List ℕ) → Task
   Asked args_name = Run schema_name data_name query_name args_name
 
-  too_short : (schema : _) (d : Doc) → Decides (AsArgs schema) (codes "{}") (Err (TooLong d)) → ⊥
-  too_short schema d (e, long) = no_less long
-    where
-      no_less : 1048576 < 2 → ⊥
-      no_less h = omega arith
-
   -- of a text without arguments no rule but one on arguments may be told
-  braces_tell : (schema : _) (x : Refusal) → Decides (AsArgs schema) (codes "{}") (Err x) → Tells (Asked None) x
+  braces_tell : (schema : Schema) (x : Refusal) → Decides (AsArgs schema) (codes "{}") (Err x) → Tells (Asked None) x
   braces_tell schema (Usage u) is = is
-  braces_tell schema (TooLong d) is = absurd (too_short schema d is)
-  braces_tell schema (Schema r) is = absurd is
+  braces_tell schema (TooLong d) is = absurd is
+  braces_tell schema (refused.Schema r) is = absurd is
   braces_tell schema (Data b) is = absurd is
   braces_tell schema (Query r) is = absurd is
   braces_tell schema (Args b) is = tt
 
-  none_refuses : (schema : _) (decided : _) (f : Matter (AsArgs schema) → Plan (List ℕ)) (x : Refusal) → Decides (AsArgs schema) (codes "{}") decided
+  none_refuses : (schema : Schema) (decided : _) (f : Matter (AsArgs schema) → Plan (List ℕ)) (x : Refusal) → Decides (AsArgs schema) (codes "{}") decided
       → MayRefuse (ruled decided >>= f) x → Tells (Asked None) x ⊎ ((a : Matter (AsArgs schema)) × MayRefuse (f a) x)
   unfolding MayRefuse ruled ◌>>=◌
   none_refuses schema (Ok a) f x is may = inr (a, may)
   none_refuses schema (Err r) f x is may = inl (subst (Tells (Asked None)) (sym may) (braces_tell schema r is))
 
-  args_refuse : (schema : _) (args_name : Option (List ℕ)) (f : Matter (AsArgs schema) → Plan (List ℕ)) (x : Refusal)
+  args_refuse : (schema : Schema) (args_name : Option (List ℕ)) (f : Matter (AsArgs schema) → Plan (List ℕ)) (x : Refusal)
       → MayRefuse (args_plan schema args_name >>= f) x → Tells (Asked args_name) x ⊎ ((a : Matter (AsArgs schema)) × MayRefuse (f a) x)
   unfolding args_plan MayRefuse ◌>>=◌
   args_refuse schema None f x (decided, is, may) = none_refuses schema decided f x is may
@@ -298,7 +338,7 @@ module _ (schema_name data_name query_name : List ℕ) where
     | inr later ↦ inr later
   ]
 
-  args_read : (schema : _) (args_name : Option (List ℕ)) (f : Matter (AsArgs schema) → Plan (List ℕ)) (d : Doc)
+  args_read : (schema : Schema) (args_name : Option (List ℕ)) (f : Matter (AsArgs schema) → Plan (List ℕ)) (d : Doc)
       → MayRead (args_plan schema args_name >>= f) d → ((d ≡ doc.Args) × AreNamed args_name) ⊎ ((a : Matter (AsArgs schema)) × MayRead (f a) d)
   unfolding args_plan MayRead ◌>>=◌
   args_read schema None f d (decided, is, may) = inr (ruled_reads (AsArgs schema) decided f d may)
@@ -307,48 +347,42 @@ module _ (schema_name data_name query_name : List ℕ) where
     | inr later ↦ inr later
   ]
 
-  answered_refuses : (schema : _) (store : _) (query : _) (args_name : Option (List ℕ)) (x : Refusal) → MayRefuse (answered_plan schema store query args_name) x
+  answered_refuses : (schema : Schema) (store : Store) (query : Scope) (args_name : Option (List ℕ)) (x : Refusal) → MayRefuse (answered_plan schema store query args_name) x
       → Tells (Asked args_name) x
-  unfolding answered_plan
-  answered_refuses schema store query args_name x may = elim (args_refuse schema args_name (λ args. answered (items_over schema store query args)) x may) [
+  answered_refuses schema store query args_name x may = elim (args_refuse schema args_name (λ args. answered (items_over schema store.objects query args)) x may) [
     | inl tells ↦ tells
-    | inr later ↦ absurd (items_refuse (items_over schema store query later.0) x later.1)
+    | inr later ↦ absurd (items_refuse (items_over schema store.objects query later.0) x later.1)
   ]
 
-  answered_reads : (schema : _) (store : _) (query : _) (args_name : Option (List ℕ)) (d : Doc) → MayRead (answered_plan schema store query args_name) d
+  answered_reads : (schema : Schema) (store : Store) (query : Scope) (args_name : Option (List ℕ)) (d : Doc) → MayRead (answered_plan schema store query args_name) d
       → (d ≡ doc.Args) × AreNamed args_name
-  unfolding answered_plan
-  answered_reads schema store query args_name d may = elim (args_read schema args_name (λ args. answered (items_over schema store query args)) d may) [
+  answered_reads schema store query args_name d may = elim (args_read schema args_name (λ args. answered (items_over schema store.objects query args)) d may) [
     | inl reads ↦ reads
-    | inr later ↦ absurd (items_read (items_over schema store query later.0) d later.1)
+    | inr later ↦ absurd (items_read (items_over schema store.objects query later.0) d later.1)
   ]
 
-  queried_refuses : (schema : _) (store : _) (args_name : Option (List ℕ)) (x : Refusal) → MayRefuse (queried_plan schema store query_name args_name) x
+  queried_refuses : (schema : Schema) (store : Store) (args_name : Option (List ℕ)) (x : Refusal) → MayRefuse (queried_plan schema store query_name args_name) x
       → Tells (Asked args_name) x
-  unfolding queried_plan
   queried_refuses schema store args_name x may = elim (document_refuses (AsQuery schema) query_name (λ query. answered_plan schema store query args_name) x may) [
     | inl tells ↦ tells_at (Asked args_name) (AsQuery schema) x (inr (inr (inl refl))) tells
     | inr later ↦ answered_refuses schema store later.0 args_name x later.1
   ]
 
-  queried_reads : (schema : _) (store : _) (args_name : Option (List ℕ)) (d : Doc) → MayRead (queried_plan schema store query_name args_name) d
+  queried_reads : (schema : Schema) (store : Store) (args_name : Option (List ℕ)) (d : Doc) → MayRead (queried_plan schema store query_name args_name) d
       → (d ≡ doc.Query) ⊎ ((d ≡ doc.Args) × AreNamed args_name)
-  unfolding queried_plan
   queried_reads schema store args_name d may = elim (document_reads (AsQuery schema) query_name (λ query. answered_plan schema store query args_name) d may) [
     | inl e ↦ inl e
     | inr later ↦ inr (answered_reads schema store later.0 args_name d later.1)
   ]
 
-  stored_refuses : (schema : _) (args_name : Option (List ℕ)) (x : Refusal) → MayRefuse (stored_plan schema data_name query_name args_name) x → Tells (Asked args_name) x
-  unfolding stored_plan
+  stored_refuses : (schema : Schema) (args_name : Option (List ℕ)) (x : Refusal) → MayRefuse (stored_plan schema data_name query_name args_name) x → Tells (Asked args_name) x
   stored_refuses schema args_name x may = elim (document_refuses (AsData schema) data_name (λ store. queried_plan schema store query_name args_name) x may) [
     | inl tells ↦ tells_at (Asked args_name) (AsData schema) x (inr (inl refl)) tells
     | inr later ↦ queried_refuses schema later.0 args_name x later.1
   ]
 
-  stored_reads : (schema : _) (args_name : Option (List ℕ)) (d : Doc) → MayRead (stored_plan schema data_name query_name args_name) d
+  stored_reads : (schema : Schema) (args_name : Option (List ℕ)) (d : Doc) → MayRead (stored_plan schema data_name query_name args_name) d
       → (d ≡ doc.Data) ⊎ ((d ≡ doc.Query) ⊎ ((d ≡ doc.Args) × AreNamed args_name))
-  unfolding stored_plan
   stored_reads schema args_name d may = elim (document_reads (AsData schema) data_name (λ store. queried_plan schema store query_name args_name) d may) [
     | inl e ↦ inl e
     | inr later ↦ inr (queried_reads schema later.0 args_name d later.1)
@@ -357,9 +391,9 @@ module _ (schema_name data_name query_name : List ℕ) where
 -- The rules that may refuse the plan of a task are those on the documents that it reads.
 pub may_tell : (t : Task) (x : Refusal) → MayRefuse (plan_for t) x → Tells t x
 unfolding const_plan check_plan run_plan
-may_tell (Const query) x may = elim (document_refuses AsConst query (λ tree. answered (items tree)) x may) [
-  | inl tells ↦ tells_at (Const query) AsConst x refl tells
-  | inr later ↦ absurd (items_refuse (items later.0) x later.1)
+may_tell (Const query) x may = elim (document_refuses (AsQuery no_types) query (λ tree. answered (bare_items tree)) x may) [
+  | inl tells ↦ tells_at (Const query) (AsQuery no_types) x refl tells
+  | inr later ↦ absurd (items_refuse (bare_items later.0) x later.1)
 ]
 may_tell (Check schema_name data_name) x may = elim (document_refuses AsSchema schema_name (λ schema. counted_plan schema data_name) x may) [
   | inl tells ↦ tells_at (Check schema_name data_name) AsSchema x (inl refl) tells
@@ -374,9 +408,9 @@ may_tell (Run schema_name data_name query_name args_name) x may =
 -- The plan of a task reads the documents of the task alone.
 pub may_read : (t : Task) (d : Doc) → MayRead (plan_for t) d → Reads t d
 unfolding const_plan check_plan run_plan
-may_read (Const query) d may = elim (document_reads AsConst query (λ tree. answered (items tree)) d may) [
+may_read (Const query) d may = elim (document_reads (AsQuery no_types) query (λ tree. answered (bare_items tree)) d may) [
   | inl e ↦ e
-  | inr later ↦ absurd (items_read (items later.0) d later.1)
+  | inr later ↦ absurd (items_read (bare_items later.0) d later.1)
 ]
 may_read (Check schema_name data_name) d may = elim (document_reads AsSchema schema_name (λ schema. counted_plan schema data_name) d may) [
   | inl e ↦ inl e

@@ -21,8 +21,8 @@ unwritten_of (outcome.RunFault f) = outcome.WriteFault chan.Err
 unwritten_of outcome.Memory = outcome.Memory
 
 -- The line of the end was put to `err`, or the put of it failed.
-abbrev pub Tells : Outcome → SinkView → SinkView → Outcome → Type 0
-Tells due err err' result = ((result ≡ due) × PutTakes err (line_of due) err') ⊎ ((result ≡ unwritten_of due) × PutFails err (line_of due) err')
+abbrev pub PutsLine : Outcome → SinkView → SinkView → Outcome → Type 0
+PutsLine due err err' result = ((result ≡ due) × PutTakes err (line_of due) err') ⊎ ((result ≡ unwritten_of due) × PutFails err (line_of due) err')
 
 -- One put in all. An answer goes to `out`, the line of another end to `err`, and the other sink is as it was. Where there is no
 -- memory for a line, this is told.
@@ -30,4 +30,4 @@ abbrev pub Delivers : Result (List ℕ) Outcome → SinkView → SinkView → Si
 Delivers (Ok text) out out' err err' result =
     (err' ≡ err) × (((result ≡ outcome.Done) × PutTakes out text out')
     ⊎ ((result ≡ outcome.WriteFault chan.Out) × PutFails out text out'))
-Delivers (Err due) out out' err err' result = (out' ≡ out) × (Tells due err err' result ⊎ Tells outcome.Memory err err' result)
+Delivers (Err due) out out' err err' result = (out' ≡ out) × (PutsLine due err err' result ⊎ PutsLine outcome.Memory err err' result)

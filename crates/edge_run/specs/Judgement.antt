@@ -1,11 +1,8 @@
 -- What the text of a document is judged as, and what is decided of it.
 use Rattle.std.specs.Prelude.{◌≡◌, ℕ, List, Result, Ok, Err, ◌⊎◌}
-use Rattle.const_build.specs.Built as over_none
-use Rattle.const_ir.specs.declared.expr.Expr.{Expr}
 use Rattle.core_ir.specs.declared.tree.Scope.{Scope}
 use Rattle.ev_schema.specs.declared.schema.Schema.{Schema}
 use Rattle.ev_value.specs.declared.args.Args.{Args}
-use Rattle.eql_forms.specs.Built as over_schema
 use Rattle.db_check.specs.declared.store.Store.{Store}
 use Rattle.edge_run.specs.Args as of_args
 use Rattle.edge_run.specs.Data as of_data
@@ -17,13 +14,12 @@ use Rattle.edge_run.specs.declared.outcome.Doc.TheVariants as doc
 use Rattle.edge_run.specs.declared.outcome.Outcome.{Outcome}
 use Rattle.edge_run.specs.declared.outcome.Outcome.TheVariants as outcome
 
--- a schema, data for a schema, a query over a schema, arguments for a query over a schema, or a query over no schema
+-- a schema, data for a schema, a query over a schema, or arguments for a query over a schema
 pub data Judgement : Type 0 where
   AsSchema : Judgement
   AsData : Schema → Judgement
   AsQuery : Schema → Judgement
   AsArgs : Schema → Judgement
-  AsConst : Judgement
 
 -- the document whose text is judged so
 abbrev pub doc_of : Judgement → Doc
@@ -31,7 +27,6 @@ doc_of AsSchema = doc.Schema
 doc_of (AsData schema) = doc.Data
 doc_of (AsQuery schema) = doc.Query
 doc_of (AsArgs schema) = doc.Args
-doc_of AsConst = doc.Query
 
 -- what a text that is accepted stands for
 abbrev pub Matter : Judgement → Type 0
@@ -39,15 +34,13 @@ Matter AsSchema = Schema
 Matter (AsData schema) = Store
 Matter (AsQuery schema) = Scope
 Matter (AsArgs schema) = Args
-Matter AsConst = Expr
 
 -- what the rules decide of a text
 abbrev pub Decides : (j : Judgement) → List ℕ → Result (Matter j) Refusal → Type 0
 Decides AsSchema text decided = of_schema.Decides text decided
 Decides (AsData schema) text decided = of_data.Decides schema text decided
-Decides (AsQuery schema) text decided = of_query.Decides (over_schema.built_query schema) text decided
+Decides (AsQuery schema) text decided = of_query.Decides schema text decided
 Decides (AsArgs schema) text decided = of_args.Decides schema text decided
-Decides AsConst text decided = of_query.Decides over_none.built_query text decided
 
 -- what was decided, as the code tells it
 abbrev pub as_told : {A : Type 0} → Result A Refusal → Result A Outcome

@@ -3,7 +3,6 @@ pub mod Data
 pub mod Deliver
 pub mod Due
 pub mod Ends
-pub mod Evaluate
 pub mod Headline
 pub mod Judgement
 pub mod Limits

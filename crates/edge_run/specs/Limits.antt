@@ -1,5 +1,5 @@
 -- How long a document may be.
-use Rattle.std.specs.Prelude.{ℕ, ◌<◌, ◌≤◌, List, length}
+use Rattle.std.specs.Prelude.{ℕ, ◌≤◌, nat_lt, Bool, List, length}
 use Rattle.edge_run.specs.declared.outcome.Doc.{Doc}
 use Rattle.edge_run.specs.declared.outcome.Doc.TheVariants as doc
 
@@ -10,9 +10,9 @@ limit_of doc.Data = 67108864
 limit_of doc.Query = 1048576
 limit_of doc.Args = 1048576
 
--- the text has more bytes than the document may have
-abbrev pub IsLong : Doc → List ℕ → Type 0
-IsLong d text = limit_of d < length text
+-- whether the text has more bytes than the document may have
+abbrev pub is_long : Doc → List ℕ → Bool
+is_long d text = nat_lt (limit_of d) (length text)
 
 -- the text has no more bytes than the document may have
 abbrev pub IsShort : Doc → List ℕ → Type 0

@@ -1,10 +1,11 @@
 -- What each mode reads and decides.
 use Rattle.std.specs.Prelude.{◌≡◌, ℕ, ◌+◌, if◌then◌else◌, List, [], ◌∷◌, ◌++◌, length, Option, Some, None, codes, decimal}
 use Rattle.std.specs.Str.{bytes_eq}
-use Rattle.const_ir.specs.Meaning.{items}
 use Rattle.core_ir.specs.declared.tree.Scope.{Scope}
 use Rattle.eql_sem.specs.Forms.{strip}
 use Rattle.eql_sem.specs.Parts.{items_in}
+use Rattle.db_store.specs.declared.object.Object.{Object}
+use Rattle.ev_schema.specs.Facts.{made_of}
 use Rattle.ev_schema.specs.declared.schema.Schema.{Schema}
 use Rattle.ev_value.specs.Item.{has_fault, faults, values}
 use Rattle.ev_value.specs.JsonText.{json_text}
@@ -16,16 +17,20 @@ use Rattle.ev_value.specs.declared.value.Val.{Val}
 use Rattle.db_check.specs.declared.store.Store.{Store}
 use Rattle.eql_world.specs.StoreWorld.{world_of}
 use Rattle.eql_world.specs.View.{view_of}
-use Rattle.edge_run.specs.Judgement.{Judgement, AsSchema, AsData, AsQuery, AsArgs, AsConst, Matter, doc_of}
-use Rattle.edge_run.specs.Limits.{limit_of}
+use Rattle.edge_run.specs.Judgement.{Judgement, AsSchema, AsData, AsQuery, AsArgs, Matter, doc_of}
+use Rattle.edge_run.specs.Limits.{limit_of, is_long}
 use Rattle.edge_run.specs.Plan.{Plan, Answer, Refuse, Fail, Read, Judge, ◌>>=◌, ruled}
-use Rattle.edge_run.specs.Refusal.{Usage}
+use Rattle.edge_run.specs.Refusal.{Usage, TooLong}
 use Rattle.edge_run.specs.declared.outcome.Doc.{Doc}
 use Rattle.edge_run.specs.declared.outcome.UsageRule.TheVariants as rule
 
--- the whole of a document; one byte more than its limit is asked for, so that a longer one shows itself
-abbrev pub document : Doc → List ℕ → Plan (List ℕ)
-document d name = Read d name (limit_of d + 1) (λ text. Answer text)
+-- a text that was read of a document, unless it is too long
+abbrev pub unless_long : Doc → List ℕ → Plan (List ℕ)
+unless_long d text = if is_long d text then Refuse (TooLong d) else Answer text
+
+-- the whole of a document; one byte more than its limit is asked for, so that a longer one shows itself and is refused
+unfoldable pub document : Doc → List ℕ → Plan (List ℕ)
+document d name = Read d name (limit_of d + 1) (unless_long d)
 
 -- a document, judged
 unfoldable pub judged_document : (j : Judgement) → List ℕ → Plan (Matter j)
@@ -48,43 +53,39 @@ answered xs = if has_fault xs then Fail (faults xs) else Answer (answer_text (va
 abbrev pub census : Schema → Store → List ℕ
 census schema store = codes "types " ++ decimal (length schema.types) ++ codes " objects " ++ decimal (length store.objects) ++ codes "\n"
 
--- mode `const`: the query alone, over no objects and no arguments
-unfoldable pub const_plan : List ℕ → Plan (List ℕ)
-const_plan name = judged_document AsConst name >>= (λ query. answered (items query))
+-- the schema without types: over it mode `const` takes its query
+abbrev pub no_types : Schema
+no_types = made_of [] [] [] []
 
--- data, once its schema is known, counted
-unfoldable pub counted_plan : Schema → List ℕ → Plan (List ℕ)
-counted_plan schema name = judged_document (AsData schema) name >>= (λ store. Answer (census schema store))
-
--- mode `check`: the schema and the data
-unfoldable pub check_plan : List ℕ → List ℕ → Plan (List ℕ)
-check_plan schema_name data_name = judged_document AsSchema schema_name >>= (λ schema. counted_plan schema data_name)
+-- the arguments of nobody
+abbrev pub no_args : Args
+no_args = record { globals = []; params = [] }
 
 -- the values of a query over the objects that the caller sees; the queries that are built have no shapes, so that an item's form is its
 -- value
-unfoldable pub items_over : Schema → Store → Scope → Args → List (Item Val)
-items_over schema store query args = strip (items_in (world_of schema (view_of schema store.objects args) args) query.body [] [])
+unfoldable pub items_over : Schema → List Object → Scope → Args → List (Item Val)
+items_over schema objects query args = strip (items_in (world_of schema (view_of schema objects args) args) query.body [] [])
 
 -- the arguments: those of a document, or none where it is not named
 unfoldable pub args_plan : Schema → Option (List ℕ) → Plan Args
 args_plan schema None = Judge (AsArgs schema) (codes "{}") ruled
 args_plan schema (Some name) = judged_document (AsArgs schema) name
 
--- a query, once schema, objects and the tree are known
-unfoldable pub answered_plan : Schema → Store → Scope → Option (List ℕ) → Plan (List ℕ)
-answered_plan schema store query args_name = args_plan schema args_name >>= (λ args. answered (items_over schema store query args))
+-- mode `const`: the query alone, over no types, no objects and no arguments
+unfoldable pub const_plan : List ℕ → Plan (List ℕ)
+const_plan query_name = judged_document (AsQuery no_types) query_name >>= (λ query. answered (items_over no_types [] query no_args))
 
--- the same, once schema and objects are known
-unfoldable pub queried_plan : Schema → Store → List ℕ → Option (List ℕ) → Plan (List ℕ)
-queried_plan schema store query_name args_name = judged_document (AsQuery schema) query_name >>= (λ query. answered_plan schema store query args_name)
-
--- the same, once the schema is known
-unfoldable pub stored_plan : Schema → List ℕ → List ℕ → Option (List ℕ) → Plan (List ℕ)
-stored_plan schema data_name query_name args_name = judged_document (AsData schema) data_name >>= (λ store. queried_plan schema store query_name args_name)
+-- mode `check`: the schema and the data, counted
+unfoldable pub check_plan : List ℕ → List ℕ → Plan (List ℕ)
+check_plan schema_name data_name =
+    judged_document AsSchema schema_name >>= (λ schema. judged_document (AsData schema) data_name >>= (λ store. Answer (census schema store)))
 
 -- mode `run`: the schema, the data, the query and the arguments
 unfoldable pub run_plan : List ℕ → List ℕ → List ℕ → Option (List ℕ) → Plan (List ℕ)
-run_plan schema_name data_name query_name args_name = judged_document AsSchema schema_name >>= (λ schema. stored_plan schema data_name query_name args_name)
+run_plan schema_name data_name query_name args_name =
+    judged_document AsSchema schema_name >>= (λ schema. judged_document (AsData schema) data_name >>= (λ store.
+    judged_document (AsQuery schema) query_name >>= (λ query. args_plan schema args_name >>= (λ args.
+    answered (items_over schema store.objects query args)))))
 
 -- the mode, over the names of a schema, of data, of a query and of arguments
 abbrev pub mode_plan : List ℕ → List ℕ → List ℕ → List ℕ → Option (List ℕ) → Plan (List ℕ)

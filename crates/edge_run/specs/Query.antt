@@ -1,17 +1,18 @@
--- Which texts are queries, which of them are built, and why the others are refused. What is built is given: over no schema, or over one.
+-- Which texts are queries, which of them are built over a schema, and why the others are refused.
 use Rattle.std.specs.Prelude.{◌≡◌, ℕ, List, Result, Ok, Err, Option, Some, None, ◌⊎◌}
 use Rattle.ast.specs.declared.statement.Query.{Query}
+use Rattle.core_ir.specs.declared.tree.Scope.{Scope}
+use Rattle.eql_forms.specs.Built.{built_query}
 use Rattle.eql_grammar.specs.Promise.{QueryText}
 use Rattle.eql_grammar.specs.Promise as grammar
 use Rattle.ev_lex.specs.Reading.{IsCut}
 use Rattle.ev_lex.specs.Reading as lexical
 use Rattle.ev_lex.specs.declared.token.Token.{Token}
+use Rattle.ev_schema.specs.declared.schema.Schema.{Schema}
 use Rattle.exact.specs.Promise as exact
 use Rattle.exact.specs.declared.rule.Rule.{Rule}
-use Rattle.edge_run.specs.Limits.{IsShort, IsLong}
 use Rattle.edge_run.specs.Refusal.{Refusal}
 use Rattle.edge_run.specs.Refusal as refused
-use Rattle.edge_run.specs.declared.outcome.Doc.TheVariants as doc
 use Rattle.edge_run.specs.declared.outcome.Outcome.{Outcome}
 use Rattle.edge_run.specs.declared.outcome.Outcome.TheVariants as outcome
 use Rattle.edge_run.specs.declared.outcome.QueryRefusal.{QueryRefusal}
@@ -27,34 +28,28 @@ IsUnread text (refusal.Lex byte) = lexical.IsRefused text byte
 IsUnread text (refusal.Syntax rule token) = (tokens : List Token) × IsCut text tokens × exact.IsRefused QueryText tokens rule token
 IsUnread text refusal.Unbuilt = ⊥
 
-module _ {A : Type 0} (build : Query → Option A) where
-  -- the text is not too long and spells a surface tree, which is built as this tree
-  pub record IsBuilt (text : List ℕ) (tree : A) : Type 0 where
-    pub short : IsShort doc.Query text
+module _ (schema : Schema) where
+  -- the text spells a surface tree, which is built over the schema as this tree
+  pub record IsBuilt (text : List ℕ) (tree : Scope) : Type 0 where
     pub surface : Query
     pub spelled : IsQuery text surface
-    pub built : build surface ≡ Some tree
+    pub built : built_query schema surface ≡ Some tree
 
   -- why a text is refused: it spells no surface tree, or one that is not built
   abbrev pub IsReason : List ℕ → QueryRefusal → Type 0
   IsReason text (refusal.Lex byte) = IsUnread text (refusal.Lex byte)
   IsReason text (refusal.Syntax rule token) = IsUnread text (refusal.Syntax rule token)
-  IsReason text refusal.Unbuilt = (surface : Query) × IsQuery text surface × (build surface ≡ None)
-
-  -- the text is not too long, and is refused for this reason
-  pub record IsRefused (text : List ℕ) (r : QueryRefusal) : Type 0 where
-    pub short : IsShort doc.Query text
-    pub reason : IsReason text r
+  IsReason text refusal.Unbuilt = (surface : Query) × IsQuery text surface × (built_query schema surface ≡ None)
 
   -- what the rules of query texts decide: the tree, or a refusal
-  abbrev pub Decides : List ℕ → Result A Refusal → Type 0
+  abbrev pub Decides : List ℕ → Result Scope Refusal → Type 0
   Decides text (Ok tree) = IsBuilt text tree
   Decides text (Err (refused.Usage u)) = ⊥
-  Decides text (Err (refused.TooLong d)) = (d ≡ doc.Query) × IsLong doc.Query text
+  Decides text (Err (refused.TooLong d)) = ⊥
   Decides text (Err (refused.Schema r)) = ⊥
   Decides text (Err (refused.Data b)) = ⊥
   Decides text (Err (refused.Args b)) = ⊥
-  Decides text (Err (refused.Query r)) = IsRefused text r
+  Decides text (Err (refused.Query r)) = IsReason text r
 
 -- ---- what the code answers
 
@@ -79,6 +74,6 @@ IsSurface text (Ok query) = IsQuery text query
 IsSurface text (Err o) = IsTold text o
 
 -- the tree of a surface tree, or that it is not built
-abbrev pub IsTree : {A : Type 0} → Option A → Result A Outcome → Type 0
+abbrev pub IsTree : Option Scope → Result Scope Outcome → Type 0
 IsTree due (Ok tree) = due ≡ Some tree
 IsTree due (Err o) = (o ≡ outcome.Memory) ⊎ ((due ≡ None) × (o ≡ outcome.QueryRefused refusal.Unbuilt))

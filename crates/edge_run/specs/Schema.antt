@@ -10,10 +10,8 @@ use Rattle.schema_build.specs.Verdict.{IsAnswer}
 use Rattle.schema_build.specs.declared.refusal.SchemaRefusal.TheVariants as build
 use Rattle.sdl_ast.specs.declared.declaration.SdlFile.{SdlFile}
 use Rattle.sdl_grammar.specs.Promise.{SchemaText, IsSchema}
-use Rattle.edge_run.specs.Limits.{IsShort, IsLong}
 use Rattle.edge_run.specs.Refusal.{Refusal}
 use Rattle.edge_run.specs.Refusal as refused
-use Rattle.edge_run.specs.declared.outcome.Doc.TheVariants as doc
 use Rattle.edge_run.specs.declared.outcome.Outcome.{Outcome}
 use Rattle.edge_run.specs.declared.outcome.Outcome.TheVariants as outcome
 use Rattle.edge_run.specs.declared.outcome.SchemaRefusal.{SchemaRefusal}
@@ -23,9 +21,8 @@ use Rattle.edge_run.specs.declared.outcome.SchemaRefusal.TheVariants as refusal
 abbrev pub IsSpelled : List ℕ → SdlFile → Type 0
 IsSpelled text file = (tokens : List Token) × IsCut text tokens × IsSchema tokens file
 
--- the text is not too long and spells a surface tree, which breaks no rule of schemas and is built as this schema
+-- the text spells a surface tree, which breaks no rule of schemas and is built as this schema
 pub record IsBuilt (text : List ℕ) (schema : Schema) : Type 0 where
-  pub short : IsShort doc.Schema text
   pub surface : SdlFile
   pub spelled : IsSpelled text surface
   pub built : IsAnswer surface (Ok schema)
@@ -38,17 +35,12 @@ IsReason text (refusal.Syntax rule token) = (tokens : List Token) × IsCut text 
 IsReason text (refusal.Build broken) = (surface : SdlFile) × IsSpelled text surface × IsAnswer surface (Err (build.Build broken))
 IsReason text refusal.Unbuilt = (surface : SdlFile) × IsSpelled text surface × IsAnswer surface (Err build.Unbuilt)
 
--- the text is not too long, and is refused for this reason
-pub record IsRefused (text : List ℕ) (r : SchemaRefusal) : Type 0 where
-  pub short : IsShort doc.Schema text
-  pub reason : IsReason text r
-
 -- what the rules of schemas decide: the schema, or a refusal
 abbrev pub Decides : List ℕ → Result Schema Refusal → Type 0
 Decides text (Ok schema) = IsBuilt text schema
 Decides text (Err (refused.Usage u)) = ⊥
-Decides text (Err (refused.TooLong d)) = (d ≡ doc.Schema) × IsLong doc.Schema text
-Decides text (Err (refused.Schema r)) = IsRefused text r
+Decides text (Err (refused.TooLong d)) = ⊥
+Decides text (Err (refused.Schema r)) = IsReason text r
 Decides text (Err (refused.Data b)) = ⊥
 Decides text (Err (refused.Query r)) = ⊥
 Decides text (Err (refused.Args b)) = ⊥

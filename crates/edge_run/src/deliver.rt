@@ -1,6 +1,6 @@
 //! Puts the text of an answer to one sink, or the line of any other end to the other.
 ghost use Rattle.std.specs.Prelude.{◌≡◌, ◌⊎◌};
-ghost use Rattle.edge_run.specs.Deliver.{Delivers, Tells, unwritten_of};
+ghost use Rattle.edge_run.specs.Deliver.{Delivers, PutsLine, unwritten_of};
 ghost use Rattle.edge_run.specs.Outcome.{line_of};
 
 use crate::outcome::{Chan, Outcome, memory_line};
@@ -21,7 +21,7 @@ fn unwritten(due: Outcome) -> Outcome
 /// Puts the line of an end to `err`.
 fn tell<L: Sink>(due: Outcome, line: &str, err: &mut L) -> Outcome
     requires { line.now ≡ line_of due }
-    ensures { Tells due (L.seen err.old) (L.seen err.new) result }
+    ensures { PutsLine due (L.seen err.old) (L.seen err.new) result }
 {
     match err.put(line.as_bytes()) {
         Ok(()) => due,
@@ -29,10 +29,10 @@ fn tell<L: Sink>(due: Outcome, line: &str, err: &mut L) -> Outcome
     }
 }
 
-/// Tells of an end, or of want of memory where there is none for its line.
+/// PutsLine of an end, or of want of memory where there is none for its line.
 fn tell_end<L: Sink>(alloc: Global, due: Outcome, err: &mut L) -> Outcome
-    ensures { Tells due (L.seen err.old) (L.seen err.new) result
-        ⊎ Tells Outcome.Memory (L.seen err.old) (L.seen err.new) result }
+    ensures { PutsLine due (L.seen err.old) (L.seen err.new) result
+        ⊎ PutsLine Outcome.Memory (L.seen err.old) (L.seen err.new) result }
 {
     if let Outcome::Memory = due {
         return tell(Outcome::Memory, memory_line(), err);

@@ -11,7 +11,6 @@ mod args;
 mod data;
 mod deliver;
 mod document;
-mod evaluate;
 mod laws;
 mod modes;
 mod outcome;

@@ -3,8 +3,8 @@ ghost use Rattle.std.specs.Prelude.{◌≡◌, IfOk};
 ghost use Rattle.std.specs.Option.{option_copied};
 ghost use Rattle.edge_run.specs.Outcome.{status_of, line_of, usage_line_of, read_line_of, long_line_of, schema_line_of, schema_syntax_of, schema_rule_of, data_line_of, data_rule_of, earlier_of, objects_line_of, query_line_of, query_syntax_of, args_line_of, args_rule_of, named_line_of, byte_line_of, token_line_of, fault_line_of};
 
-use db_load::{ArgsRule, BrokenArgs};
 use db_draft::{Broken as BrokenData, Rule as DataRule};
+use db_load::{ArgsRule, BrokenArgs};
 use ev_value::{Fault, Text};
 use exact::Rule;
 use schema_build::{Broken as BrokenSchema, Rule as SchemaRule};

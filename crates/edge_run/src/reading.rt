@@ -1,16 +1,15 @@
 //! Documents, read and decided.
 ghost use Rattle.std.specs.Option.{option_copied};
-ghost use Rattle.edge_run.specs.Judgement.{AsSchema, AsData, AsQuery, AsArgs, AsConst};
+ghost use Rattle.edge_run.specs.Judgement.{AsSchema, AsData, AsQuery, AsArgs};
 ghost use Rattle.edge_run.specs.Plan.{Goes};
 ghost use Rattle.edge_run.specs.Modes.{judged_document, args_plan};
 
-use crate::args::{decide_args, loaded_args};
+use crate::args::decide_args;
 use crate::data::decide_data;
 use crate::document::read;
 use crate::outcome::{Doc, Outcome};
-use crate::query::{decide_query, decide_query_over};
+use crate::query::decide_query;
 use crate::schema::decide_schema;
-use const_ir::Expr;
 use core_ir::Scope;
 use db_check::Store;
 use ev_io::Shelf;
@@ -18,26 +17,13 @@ use ev_schema::Schema;
 use ev_value::{Args, Text};
 use std::alloc::Global;
 
-/// The tree of a query over no schema.
-#[tactic(auto, unfolding(crate::specs::Modes::judged_document), using(crate::proofs::PlanLaws::then_ok, crate::proofs::PlanLaws::then_err, crate::proofs::PlanLaws::judged_goes))]
-pub fn read_query<H: Shelf>(alloc: Global, shelf: &mut H, name: &Text) -> Result<Expr, Outcome>
-    ensures { Goes (judged_document AsConst name.now) (H.seen shelf.old) result (H.seen shelf.new) }
-{
-    match read(shelf, Doc::Query, name) {
-        Ok(text) => decide_query(alloc, &text),
-        Err(outcome) => Err(outcome),
-    }
-}
-
 /// The schema of a document.
 #[tactic(auto, unfolding(crate::specs::Modes::judged_document), using(crate::proofs::PlanLaws::then_ok, crate::proofs::PlanLaws::then_err, crate::proofs::PlanLaws::judged_goes))]
 pub fn read_schema<H: Shelf>(alloc: Global, shelf: &mut H, name: &Text) -> Result<Schema, Outcome>
     ensures { Goes (judged_document AsSchema name.now) (H.seen shelf.old) result (H.seen shelf.new) }
 {
-    match read(shelf, Doc::Schema, name) {
-        Ok(text) => decide_schema(alloc, &text),
-        Err(outcome) => Err(outcome),
-    }
+    let text = read(shelf, Doc::Schema, name)?;
+    decide_schema(alloc, text.as_slice())
 }
 
 /// The objects of a document, for a schema.
@@ -50,15 +36,13 @@ pub fn read_data<H: Shelf>(
 ) -> Result<Store, Outcome>
     ensures { Goes (judged_document (AsData schema.now) name.now) (H.seen shelf.old) result (H.seen shelf.new) }
 {
-    match read(shelf, Doc::Data, name) {
-        Ok(text) => decide_data(alloc, schema, &text),
-        Err(outcome) => Err(outcome),
-    }
+    let text = read(shelf, Doc::Data, name)?;
+    decide_data(alloc, schema, text.as_slice())
 }
 
 /// The tree of a query over a schema.
 #[tactic(auto, unfolding(crate::specs::Modes::judged_document), using(crate::proofs::PlanLaws::then_ok, crate::proofs::PlanLaws::then_err, crate::proofs::PlanLaws::judged_goes))]
-pub fn read_query_over<H: Shelf>(
+pub fn read_query<H: Shelf>(
     alloc: Global,
     shelf: &mut H,
     schema: &Schema,
@@ -66,10 +50,8 @@ pub fn read_query_over<H: Shelf>(
 ) -> Result<Scope, Outcome>
     ensures { Goes (judged_document (AsQuery schema.now) name.now) (H.seen shelf.old) result (H.seen shelf.new) }
 {
-    match read(shelf, Doc::Query, name) {
-        Ok(text) => decide_query_over(alloc, schema, &text),
-        Err(outcome) => Err(outcome),
-    }
+    let text = read(shelf, Doc::Query, name)?;
+    decide_query(alloc, schema, text.as_slice())
 }
 
 // The arguments of a document.
@@ -82,10 +64,8 @@ fn read_args<H: Shelf>(
 ) -> Result<Args, Outcome>
     ensures { Goes (judged_document (AsArgs schema.now) name.now) (H.seen shelf.old) result (H.seen shelf.new) }
 {
-    match read(shelf, Doc::Args, name) {
-        Ok(text) => decide_args(alloc, schema, &text),
-        Err(outcome) => Err(outcome),
-    }
+    let text = read(shelf, Doc::Args, name)?;
+    decide_args(alloc, schema, text.as_slice())
 }
 
 /// The arguments of a document, or those of a text without any where no document is named.
@@ -100,6 +80,6 @@ pub fn given_args<H: Shelf>(
 {
     match name {
         Some(name) => read_args(alloc, shelf, schema, name),
-        None => loaded_args(alloc, schema, b"{}"),
+        None => decide_args(alloc, schema, b"{}"),
     }
 }

@@ -1,15 +1,14 @@
 //! The text of a schema, decided: the schema, or why it is refused.
 ghost use Rattle.std.specs.Prelude.{◌≡◌, ◌↔◌, ◌<◌, ◌^◌, IsTrue, length};
 ghost use Rattle.edge_run.specs.Judgement.{AsSchema, IsDecided};
+ghost use Rattle.edge_run.specs.declared.outcome.Doc.{Doc};
 ghost use Rattle.edge_run.specs.Limits.{IsShort};
 ghost use Rattle.edge_run.specs.Schema.{IsTokens, IsParsed, IsSurface, IsMade};
 
-use crate::document::limit;
-use crate::outcome::{Doc, Outcome, SchemaRefusal};
+use crate::outcome::{Outcome, SchemaRefusal};
 use eql_parse::SyntaxRefusal;
 use ev_lex::{LexRefusal, Tokens, lex};
 use ev_schema::Schema;
-use ev_value::Bytes;
 use exact::Rule;
 use schema_build::{SchemaRefusal as BuildRefusal, build};
 use sdl_ast::SdlFile;
@@ -54,10 +53,8 @@ fn surface(alloc: Global, text: &[u8]) -> Result<SdlFile, Outcome>
     requires { IsShort Doc.Schema text.now }
     ensures { IsSurface text.now result }
 {
-    match tokens(alloc, text) {
-        Ok(tokens) => parsed(alloc, &tokens),
-        Err(outcome) => Err(outcome),
-    }
+    let tokens = tokens(alloc, text)?;
+    parsed(alloc, &tokens)
 }
 
 // The schema that the surface tree is built as.
@@ -74,15 +71,13 @@ fn made(alloc: Global, file: SdlFile) -> Result<Schema, Outcome>
     }
 }
 
-/// The schema of a text, unless it is too long, spells no schema, or one that breaks a rule or is not built.
-#[tactic(auto, using(crate::proofs::SchemaLaws::long, crate::proofs::SchemaLaws::told_is_decided, crate::proofs::SchemaLaws::made_is_decided))]
-pub fn decide_schema(alloc: Global, text: &Bytes) -> Result<Schema, Outcome>
+/// The schema of a text, unless it spells no schema, or one that breaks a rule or is not built.
+#[tactic(auto, using(crate::proofs::SchemaLaws::told_is_decided, crate::proofs::SchemaLaws::made_is_decided))]
+pub fn decide_schema(alloc: Global, text: &[u8]) -> Result<Schema, Outcome>
+    requires { IsShort Doc.Schema text.now }
     ensures { IsDecided AsSchema text.now result }
 {
-    if text.len() as u64 > limit(Doc::Schema) {
-        return Err(Outcome::TooLong(Doc::Schema));
-    }
-    match surface(alloc, text.as_slice()) {
+    match surface(alloc, text) {
         Ok(file) => made(alloc, file),
         Err(outcome) => Err(outcome),
     }

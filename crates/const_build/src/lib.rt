@@ -1,6 +1,0 @@
-//! The trees of constant queries from surface trees.
-#![tactic(auto)]
-
-mod built;
-
-pub use built::{BuildError, build_query};

@@ -1,2 +1,0 @@
-pub mod Expr
-pub mod Meaning
