@@ -60,7 +60,8 @@ fn told(alloc: Global, text: &[u8]) -> Outcome {
     }
 }
 
-fn schema_in(alloc: Global, text: &[u8]) -> Option<Schema> {
+/// The schema of a text that breaks no rule.
+pub fn schema_in(alloc: Global, text: &[u8]) -> Option<Schema> {
     match built_of(alloc, text) {
         Some(Ok(schema)) => Some(schema),
         Some(Err(_)) => None,
@@ -68,7 +69,7 @@ fn schema_in(alloc: Global, text: &[u8]) -> Option<Schema> {
     }
 }
 
-static ROWS: [(&[u8], Outcome); 78] = [
+static ROWS: [(&[u8], Outcome); 84] = [
     (b"", Outcome::Schema(0, 1, 0)),
     (b"type A extending A {}", Outcome::Broken(Rule::M3, 0)),
     (b"type A { x: int65; }", Outcome::Broken(Rule::M2, 12)),
@@ -160,6 +161,14 @@ static ROWS: [(&[u8], Outcome); 78] = [
     ),
     (
         b"type A { x: int64 { default := (1); } }",
+        Outcome::Schema(1, 2, 0),
+    ),
+    (
+        b"type A { x: int64 { default := (1 + 1); } }",
+        Outcome::Broken(Rule::M11, 20),
+    ),
+    (
+        b"type A { x: int64 { default := -(-(1)); } }",
         Outcome::Broken(Rule::M11, 20),
     ),
     (
@@ -214,7 +223,11 @@ static ROWS: [(&[u8], Outcome); 78] = [
     (b"type A { x: STD::str; }", Outcome::Broken(Rule::M2, 12)),
     (b"type A { link x: str; }", Outcome::Broken(Rule::M2, 17)),
     (b"type A { property x: A; }", Outcome::Broken(Rule::M2, 21)),
-    (b"type A { l: A { p: A; }; }", Outcome::Broken(Rule::M2, 19)),
+    (
+        b"type A { l: A { property y: A; } }",
+        Outcome::Broken(Rule::M2, 28),
+    ),
+    (b"type A { l: A { p: C; }; }", Outcome::Broken(Rule::M2, 19)),
     (b"type A { l: B { p: C; }; }", Outcome::Broken(Rule::M2, 12)),
     (
         b"type A extending A { x: B; }",
@@ -284,7 +297,16 @@ static ROWS: [(&[u8], Outcome); 78] = [
         b"type A { x: A { default := 1; } }",
         Outcome::Broken(Rule::M5, 16),
     ),
+    (
+        b"type A { x: int64 { constraint one_of((1)); constraint one_of(1, -(2)); constraint min_value(((5))); default := (-(1)); } }",
+        Outcome::Schema(1, 2, 0),
+    ),
+    (
+        b"type A { x: str { constraint one_of((1)); } }",
+        Outcome::Broken(Rule::M5, 18),
+    ),
     // M6
+    (b"type A { l: A { y: A; } }", Outcome::Broken(Rule::M6, 16)),
     (
         b"type A { l: A { required p: str; } }",
         Outcome::Broken(Rule::M6, 16),
