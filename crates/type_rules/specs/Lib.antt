@@ -1,0 +1,4 @@
+pub mod Agreement
+pub mod Tables
+pub mod Refusal
+pub mod Steps
