@@ -1,2 +1,3 @@
 pub mod Agreeing
 pub mod Walking
+pub mod Noting

@@ -1,4 +1,5 @@
-//! When types agree.
+//! When types agree, and on what: one type for values that come from two places, as the EdgeDB documentation's pages on the
+//! type system and on set operators say.
 ghost use Rattle.std.specs.Prelude.{◌≡◌, IfOk, Some};
 ghost use Rattle.type_rules.specs.Agreement as spec;
 
@@ -20,7 +21,7 @@ pub fn same_scalar(a: ScalarTy, b: ScalarTy) -> bool
     }
 }
 
-/// Whether two object types are one, or the one extends the other.
+/// Whether two object types are one, or the one extends the other (the EdgeDB documentation's page on inheritance).
 pub fn related(schema: &Schema, a: TypeId, b: TypeId) -> bool
     ensures { result ≡ spec.related schema.now.types a b }
 {
@@ -72,7 +73,8 @@ fn as_tuple(types: Option<List<Ty>>) -> Option<Ty>
     }
 }
 
-/// The type that two types agree on.
+/// The type that two types agree on: one scalar type, one array type, the higher one of two related object types, or the
+/// tuple of what the components of two tuples agree on. None where they do not agree: nothing is cast on its own.
 #[cycle(agreed)]
 #[tactic(auto, using(crate::proofs::Agreeing::agreed_forms))]
 pub fn agreed(alloc: Global, a: &Ty, b: &Ty, schema: &Schema) -> Result<Option<Ty>, AllocError>

@@ -1,4 +1,5 @@
-//! Why a tree has no types.
+//! Why a tree has no types: the rules of the EdgeDB documentation's pages on types, operators and casts, by the letters that
+//! the program prints.
 
 use core_ir::PtrId;
 use std::alloc::AllocError;
@@ -27,9 +28,10 @@ pub enum TypeRule {
     T8,
 }
 
-/// Why a tree has no types.
+/// Why a tree has no types. Memory can run out at any place.
 #[derive(Clone, Copy, Debug, Drop, Error)]
 pub enum TypeRefusal {
+    /// No memory is left.
     #[error("out of memory")]
     Memory,
     /// The rule that fails first, and the byte where it does.

@@ -1,4 +1,4 @@
-//! The types along a path.
+//! The types along a path, as the EdgeDB documentation's page on paths says.
 ghost use Rattle.std.specs.Prelude.{◌≡◌, ◌<◌, IfOk, Some, None, [], length};
 ghost use Rattle.std.specs.Option.{option_copied};
 ghost use Rattle.ev_schema.specs.Steps.{link_of as link_of_step};
@@ -18,6 +18,7 @@ use std::alloc::Global;
 /// A path as far as it has types.
 #[derive(Drop)]
 pub struct Walked {
+    /// The steps so far, by their pointers.
     pub steps: List<Step>,
     /// The link that the last step takes, whose properties the next one may name.
     pub link: Option<PtrId>,
@@ -144,7 +145,13 @@ fn dot(index: &Index, from: &Ty, name: &Text, place: u32) -> Result<Step, TypeRe
 
 /// `.<name[is T]`
 #[tactic(auto, unfolding(crate::specs::Steps::back))]
-fn back(index: &Index, from: &Ty, name: &Text, source: TypeId, place: u32) -> Result<Step, TypeRefusal>
+fn back(
+    index: &Index,
+    from: &Ty,
+    name: &Text,
+    source: TypeId,
+    place: u32,
+) -> Result<Step, TypeRefusal>
     ensures { Answers (tells (rule.back index.now from.now name.now source place tt)) result tt }
 {
     let schema = index.schema();
@@ -158,7 +165,13 @@ fn back(index: &Index, from: &Ty, name: &Text, source: TypeId, place: u32) -> Re
 }
 
 /// What a step stands for from values of a type.
-fn looked_up(alloc: Global, index: &Index, from: &Ty, step: &Step, place: u32) -> Result<Step, TypeRefusal>
+fn looked_up(
+    alloc: Global,
+    index: &Index,
+    from: &Ty,
+    step: &Step,
+    place: u32,
+) -> Result<Step, TypeRefusal>
     ensures { Answers (tells (rule.looked_up index.now from.now step.now place tt)) result tt }
 {
     match step {
@@ -174,7 +187,13 @@ fn looked_up(alloc: Global, index: &Index, from: &Ty, step: &Step, place: u32) -
 
 /// One more step behind those that have types.
 #[tactic(auto, unfolding(crate::specs::Steps::walk_on))]
-fn walk_on(alloc: Global, index: &Index, done: Walked, step: &Step, place: u32) -> Result<Walked, TypeRefusal>
+fn walk_on(
+    alloc: Global,
+    index: &Index,
+    done: Walked,
+    step: &Step,
+    place: u32,
+) -> Result<Walked, TypeRefusal>
     ensures { Answers (tells (rule.walk_on index.now done step.now place tt)) result tt }
 {
     let step = looked_up(alloc, index, &done.reached, step, place)?;
@@ -192,8 +211,16 @@ fn walk_on(alloc: Global, index: &Index, done: Walked, step: &Step, place: u32) 
     })
 }
 
-/// The steps of a path in turn, from values of a type.
-pub fn walk(alloc: Global, index: &Index, start: u32, occurrence: &Occurrence, from: Ty) -> Result<Walked, TypeRefusal>
+/// The steps of a path in turn, from values of a type: each name becomes the pointer that it stands for in the type reached
+/// so far (the EdgeDB documentation's page on paths). `start` is the byte where the path begins, `occurrence.places` those
+/// of its last steps. Refuses by the first step that fails, or that needs an expression that is not known yet.
+pub fn walk(
+    alloc: Global,
+    index: &Index,
+    start: u32,
+    occurrence: &Occurrence,
+    from: Ty,
+) -> Result<Walked, TypeRefusal>
     ensures { Answers (tells (rule.walk index.now start occurrence.now.places (record { steps = []; link = None; reached = from }) occurrence.now.path.steps tt)) result tt }
 {
     let steps = occurrence.path.steps.as_slice();

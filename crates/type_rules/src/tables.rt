@@ -1,4 +1,5 @@
 //! The tables: what each operator, function and cast gives for the types of its operands.
+//! An operand that does not suit has no row: there are no casts but those that are written.
 ghost use Rattle.std.specs.Prelude.{◌≡◌};
 ghost use Rattle.type_rules.specs.Tables as table;
 
@@ -7,7 +8,7 @@ use core_ir::{SetFunction, Ty};
 use ev_schema::Schema;
 use ev_value::{Op, ScalarTy, Val};
 
-/// The type of a literal.
+/// The type of a literal (the EdgeDB documentation's page on literals). None for what no literal writes.
 pub fn literal(value: &Val) -> Option<ScalarTy>
     ensures { result ≡ table.literal value.now }
 {
@@ -72,6 +73,7 @@ fn ordered(a: &Ty, b: &Ty) -> bool
     }
 }
 
+/// Whether there are two types, and they have an order.
 fn in_order(types: &[Ty]) -> bool
     ensures { result ≡ table.in_order types.now }
 {
@@ -81,7 +83,8 @@ fn in_order(types: &[Ty]) -> bool
     }
 }
 
-/// Whether values of two types can be equal.
+/// Whether values of two types can be equal: they are one scalar or array type, or objects of related types (the EdgeDB
+/// documentation's page on generic operators).
 pub fn comparable(schema: &Schema, a: &Ty, b: &Ty) -> bool
     ensures { result ≡ table.comparable schema.now.types a.now b.now }
 {
@@ -91,6 +94,7 @@ pub fn comparable(schema: &Schema, a: &Ty, b: &Ty) -> bool
     }
 }
 
+/// Whether there are two types, and their values can be equal.
 fn can_equal(schema: &Schema, types: &[Ty]) -> bool
     ensures { result ≡ table.can_equal schema.now.types types.now }
 {
@@ -100,7 +104,8 @@ fn can_equal(schema: &Schema, types: &[Ty]) -> bool
     }
 }
 
-/// The type that an operator or a plain function gives, by the types of its operands.
+/// The type that an operator or a plain function gives, by the types of its operands (the EdgeDB documentation's pages on
+/// numerics, strings, generic and boolean operators). None where they do not suit it.
 pub fn operator_type(schema: &Schema, op: Op, types: &[Ty]) -> Option<Ty>
     ensures { result ≡ table.operator_type schema.now.types op types.now }
 {
@@ -118,7 +123,8 @@ pub fn operator_type(schema: &Schema, op: Op, types: &[Ty]) -> Option<Ty>
     }
 }
 
-/// The type that a function of a whole set gives, by the type of the set's items.
+/// The type that a function of a whole set gives, by the type of the set's items (the EdgeDB documentation's page on set
+/// functions and operators). None where it does not suit it.
 pub fn function_type(function: SetFunction, ty: Ty) -> Option<Ty>
     ensures { result ≡ table.function_type function ty }
 {
@@ -139,7 +145,8 @@ pub fn function_type(function: SetFunction, ty: Ty) -> Option<Ty>
     }
 }
 
-/// Whether values of a type can be cast to a scalar type.
+/// Whether values of a type can be cast to a scalar type: to their own, to `str`, or from `str` (the EdgeDB documentation's
+/// page on casts).
 pub fn can_cast(from: &Ty, to: ScalarTy) -> bool
     ensures { result ≡ table.can_cast from.now to }
 {
@@ -163,7 +170,8 @@ fn same_as(scalar: ScalarTy, types: &[Ty]) -> Option<ScalarTy>
     Some(scalar)
 }
 
-/// The type of an array's elements: the one that all have, or the one that is written where there are none.
+/// The type of an array's elements: the one that all have, or the one that is written where there are none (the EdgeDB
+/// documentation's page on arrays). None where they are not all of one scalar type.
 pub fn elements_type(written: Option<ScalarTy>, types: &[Ty]) -> Option<ScalarTy>
     ensures { result ≡ table.elements_type written types.now }
 {
