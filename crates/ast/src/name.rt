@@ -1,4 +1,6 @@
 //! Names and places.
+ghost use Rattle.std.specs.Prelude.{◌≡◌};
+ghost use Rattle.ast.specs.Name.{start_of};
 
 use ev_value::Text;
 
@@ -21,4 +23,16 @@ pub struct Name {
 pub struct QualifiedName {
     pub module: Option<Name>,
     pub name: Name,
+}
+
+impl QualifiedName {
+    /// The first byte, its module included.
+    pub fn start(&self) -> u32
+        ensures { result ≡ start_of self.now }
+    {
+        match &self.module {
+            None => self.name.span.start,
+            Some(module) => module.span.start,
+        }
+    }
 }

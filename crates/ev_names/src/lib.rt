@@ -2,7 +2,7 @@
 //! Takes names one after the other; gives the first place of a name among them, or the scalar type that a name means.
 //! Contract: `Names` stands for the list of its names, and `find` gives the first place in it (`specs/Names`); `scalar_named`
 //! gives exactly its definition (`specs/Scalar`).
-//! Seen by no crate yet: what reads schemas and names queries is to find its names by it.
+//! Seen by `eql_naming`.
 #![tactic(auto)]
 
 mod names;

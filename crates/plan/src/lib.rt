@@ -3,5 +3,5 @@
 //! Takes a plan; gives what it tells: the one result that has a derivation, or the first failure.
 //! Contract: each plan has a derivation or a first failure (`decides`), at most one of either (`one_result`,
 //! `one_failure`), and never both (`fails_alone`).
-//! Seen by `type_rules`.
+//! Seen by `eql_naming` and `type_rules`.
 #![tactic(auto)]
