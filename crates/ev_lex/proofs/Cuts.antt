@@ -210,6 +210,18 @@ none_of_three bytes a b c (suc (suc zero)) p q = b
 none_of_three bytes a b c (suc (suc (suc zero))) p q = c
 none_of_three bytes a b c (suc (suc (suc (suc m)))) p q = absurd (omega arith)
 
+pub above_two : (bytes : List ℕ) → sign_at bytes 3 ≡ None → (m : ℕ) → 2 < m → m ≤ 3 → sign_at bytes m ≡ None
+above_two bytes c m p q = none_at m (omega arith) where
+  none_at : (m : ℕ) → m ≡ 3 → sign_at bytes m ≡ None
+  none_at m e = rw e c
+
+pub above_one : (bytes : List ℕ) → sign_at bytes 2 ≡ None → sign_at bytes 3 ≡ None → (m : ℕ) → 1 < m → m ≤ 3 → sign_at bytes m ≡ None
+above_one bytes b c zero p q = absurd (omega arith)
+above_one bytes b c (suc zero) p q = absurd (omega arith)
+above_one bytes b c (suc (suc zero)) p q = b
+above_one bytes b c (suc (suc (suc zero))) p q = c
+above_one bytes b c (suc (suc (suc (suc m)))) p q = absurd (omega arith)
+
 none_signed : (front rest : List ℕ) (k : TokenKind) → ((m : ℕ) → 0 < m → m ≤ 3 → sign_at (front ++ rest) m ≡ None) → (kind_rank k ≡ 0) ⊎ (kind_rank k ≡ 4) → Spells front rest k → ⊥
 none_signed front rest (kind.Word w) none r s = ⊎_elim (λ h. absurd (omega arith)) (λ h. absurd (omega arith)) r
 none_signed front rest (kind.Int w) none r s = ⊎_elim (λ h. absurd (omega arith)) (λ h. absurd (omega arith)) r

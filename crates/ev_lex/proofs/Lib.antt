@@ -1,5 +1,8 @@
+pub mod Characters
 pub mod Closing
 pub mod Cuts
+pub mod EachLiteral
+pub mod EachText
 pub mod Front
 pub mod Keywords
 pub mod Literals

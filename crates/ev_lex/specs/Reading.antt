@@ -1,5 +1,5 @@
 -- How a text is cut into tokens, from its first byte on.
-use Rattle.std.specs.Prelude.{◌≡◌, ◌≢◌, ℕ, ◌+◌, List, [], ◌∷◌, ◌++◌, length}
+use Rattle.std.specs.Prelude.{◌≡◌, ◌≢◌, ◌⊎◌, ℕ, ◌+◌, List, [], ◌∷◌, ◌++◌, length}
 use Rattle.ev_lex.specs.declared.token.Token.{Token}
 use Rattle.ev_lex.specs.declared.token.TokenKind.{TokenKind}
 use Rattle.ev_lex.specs.Separator.{IsSeparator}
@@ -29,3 +29,7 @@ IsCut text tokens = Reads 0 text tokens (length text) []
 -- Reading the text arrives at the byte, with which neither a separator nor a token begins.
 abbrev pub IsRefused : List ℕ → ℕ → Type 0
 IsRefused text byte = (tokens : List Token) × (left : List ℕ) × Reads 0 text tokens byte left × (left ≢ []) × BeginsNoSeparator left × BeginsNoToken left
+
+-- The text is cut into tokens, or refused at a byte.
+abbrev pub IsRead : List ℕ → Type 0
+IsRead text = ((tokens : List Token) × IsCut text tokens) ⊎ ((byte : ℕ) × IsRefused text byte)

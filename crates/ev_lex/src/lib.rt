@@ -19,6 +19,6 @@ mod token;
 mod word;
 
 pub use keyword::{Keyword, is_reserved, keyword_of};
-pub use laws::one_reading;
+pub use laws::{each_reading, one_reading};
 pub use reading::{LexRefusal, lex};
 pub use token::{Sign, Token, TokenKind, Tokens};

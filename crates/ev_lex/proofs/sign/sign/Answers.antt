@@ -1,19 +1,6 @@
-use Rattle.std.proofs.Common.{◌≡◌, ℕ, ◌<◌, ◌≤◌, zero, suc, None, List, sym, arith}
-use Rattle.ev_lex.specs.SignTable.{sign_at}
-use Rattle.ev_lex.proofs.Cuts.{none_of_three, sign_token, sign_none}
+use Rattle.std.proofs.Common.{sym, arith}
+use Rattle.ev_lex.proofs.Cuts.{above_one, above_two, none_of_three, sign_token, sign_none}
 use Rattle.ev_lex.proofs.sign.sign.Goals as goal
-
-above_two : (bytes : List ℕ) → sign_at bytes 3 ≡ None → (m : ℕ) → 2 < m → m ≤ 3 → sign_at bytes m ≡ None
-above_two bytes c m p q = none_at m (omega arith) where
-  none_at : (m : ℕ) → m ≡ 3 → sign_at bytes m ≡ None
-  none_at m e = rw e c
-
-above_one : (bytes : List ℕ) → sign_at bytes 2 ≡ None → sign_at bytes 3 ≡ None → (m : ℕ) → 1 < m → m ≤ 3 → sign_at bytes m ≡ None
-above_one bytes b c zero p q = absurd (omega arith)
-above_one bytes b c (suc zero) p q = absurd (omega arith)
-above_one bytes b c (suc (suc zero)) p q = b
-above_one bytes b c (suc (suc (suc zero))) p q = c
-above_one bytes b c (suc (suc (suc (suc m)))) p q = absurd (omega arith)
 
 pub returns-in-Some : goal.returns-in-Some
 returns-in-Some c = rw c.cut.ensures (sign_token c.args.bytes.now 3 c.in-Some.sign (sym c.in-Some.ensures) (omega arith) (λ m p q. absurd (omega arith)))
