@@ -1,8 +1,8 @@
 -- What is promised of the readers of queries and of expressions.
-use Rattle.std.proofs.Common.{◌≡◌, ℕ, suc, ◌+◌, ◌≤◌, List, [], length, ap, ◌∙◌, sym, arith}
+use Rattle.std.proofs.Common.{◌≡◌, ℕ, suc, ◌+◌, ◌-◌, ◌≤◌, List, [], length, inl, inr, refl, ap, ◌∙◌, sym, arith}
 use Rattle.exact.specs.declared.rule.Rule.{Rule}
 use Rattle.exact.specs.Language.{Lang}
-use Rattle.exact.specs.Reading.{Reader, Got, Stop, whole}
+use Rattle.exact.specs.Reading.{Outcome, Reader, Got, Stop, whole}
 use Rattle.exact.specs.Promise.{Spells, IsRefused, IsPrefix, Ended}
 use Rattle.exact.proofs.Exact.{IsExact}
 use Rattle.exact.proofs.Laws.{Grows, Loosens, Open}
@@ -15,7 +15,7 @@ use Rattle.eql_grammar.specs.declared.grown.Asked.{Asked}
 use Rattle.eql_grammar.specs.Trees.{too_high, unlimited, query_of}
 use Rattle.eql_grammar.specs.Grammar as g
 use Rattle.eql_grammar.specs.Readers as r
-use Rattle.eql_grammar.specs.Promise.{is_tall, QueryText, ExprText, IsQuery}
+use Rattle.eql_grammar.specs.Promise.{is_tall, QueryText, ExprText, IsQuery, IsRead}
 use Rattle.eql_grammar.proofs.Sets.{go}
 use Rattle.eql_grammar.proofs.Levels.{within_known, query_go, exact_query}
 
@@ -92,6 +92,15 @@ pub one_tree : (ts : List Token) (x y : Query) → IsQuery ts x → IsQuery ts y
 one_tree ts x y a b =
     let same : a.0 ≡ b.0 = one_query ts a.0 b.0 (loosens 0 (suc (length ts)) ts a.0 (omega arith) a.1) (loosens 0 (suc (length ts)) ts b.0 (omega arith) b.1) in
     a.2 ∙ ap query_of same ∙ sym b.2
+
+-- Each text spells a query, or is refused.
+pub each_text : (ts : List Token) → IsRead ts
+each_text ts = by_outcome (all ts) refl where
+  by_outcome : (o : Outcome Token Asked) → all ts ≡ o → IsRead ts
+  by_outcome (Got asked rest) e = inl (query_of asked, (asked, found ts asked rest e, refl))
+  by_outcome (Stop rule rest) e =
+      let token = length ts - length rest in
+      inr (rule, token, refused ts rule rest e token (omega (arith, left_over ts rule rest e)))
 
 -- ---- an expression from a place on
 

@@ -1,5 +1,5 @@
 -- What is promised of the texts of queries and of expressions.
-use Rattle.std.specs.Prelude.{◌≡◌, ℕ, Bool, false, List}
+use Rattle.std.specs.Prelude.{◌≡◌, ◌⊎◌, ℕ, Bool, false, List}
 use Rattle.ev_lex.specs.declared.token.Token.{Token}
 use Rattle.ast.specs.declared.expression.Expr.{Expr}
 use Rattle.ast.specs.declared.statement.Query.{Query}
@@ -9,7 +9,8 @@ use Rattle.eql_grammar.specs.declared.limits.TheConstants.{MAX_OPEN}
 use Rattle.eql_grammar.specs.Trees.{too_high, statement_of, query_of}
 use Rattle.eql_grammar.specs.Grammar as g
 use Rattle.exact.specs.Language.{Lang}
-use Rattle.exact.specs.Promise.{Any, Ended, Spells, IsPrefix}
+use Rattle.exact.specs.Promise.{Any, Ended, Spells, IsPrefix, IsRefused}
+use Rattle.exact.specs.declared.rule.Rule.{Rule}
 
 -- whether the statement of a query is too high
 abbrev pub is_tall : Asked → Bool
@@ -27,6 +28,10 @@ ExprText = Any (λ spare. (g.within too_high spare MAX_OPEN).expr)
 -- The tokens spell the query, and all limits are kept.
 abbrev pub IsQuery : List Token → Query → Type 0
 IsQuery ts query = (asked : Asked) × Spells QueryText ts asked × (query ≡ query_of asked)
+
+-- The tokens spell a query, or are refused at one of them or at the end.
+abbrev pub IsRead : List Token → Type 0
+IsRead ts = ((query : Query) × IsQuery ts query) ⊎ ((rule : Rule) × (token : ℕ) × IsRefused QueryText ts rule token)
 
 -- The first k tokens spell the expression, all limits are kept at them and behind them, and no expression agrees with one more token.
 abbrev pub IsExprUpTo : List Token → Expr → ℕ → Type 0

@@ -6,11 +6,16 @@ ghost use Rattle.ast.specs.declared.expression.Expr.{Expr};
 ghost use Rattle.ast.specs.declared.statement.Query.{Query};
 ghost use Rattle.ev_lex.specs.declared.token.Token.{Token};
 ghost use Rattle.ev_lex.specs.Reading.{IsCut};
-ghost use Rattle.eql_grammar.specs.Promise.{QueryText, IsQuery, IsExprUpTo};
+ghost use Rattle.eql_grammar.specs.Promise.{QueryText, IsQuery, IsRead, IsExprUpTo};
 
 /// Each text spells at most one query.
 pub fn one_tree()
     ensures { (ts : List Token) (x y : Query) → IsQuery ts x → IsQuery ts y → x ≡ y }
+{}
+
+/// Each text spells a query, or is refused at a token or at its end: there is no third way.
+pub fn each_query_text()
+    ensures { (ts : List Token) → IsRead ts }
 {}
 
 /// Each text is refused at most at one token, for one reason, and not at all where it spells a query.

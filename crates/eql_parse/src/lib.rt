@@ -22,7 +22,7 @@ mod statements;
 #[cfg(test)]
 mod tests;
 
-pub use laws::{few_tokens, one_expression, one_refusal, one_tree};
+pub use laws::{each_query_text, few_tokens, one_expression, one_refusal, one_tree};
 pub use parse::{parse_expr, parse_query};
 pub use read::expr;
 pub use refusal::SyntaxRefusal;
