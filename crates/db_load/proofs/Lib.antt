@@ -1,3 +1,4 @@
 pub mod MemberLaws
 pub mod AnswerLaws
 pub mod Loaded
+pub mod EachText

@@ -20,5 +20,5 @@ mod text;
 
 pub use arguments::load_args;
 pub use data::load;
-pub use laws::loaded_objects_fit;
+pub use laws::{each_text_is_loaded, loaded_objects_fit};
 pub use refusal::{ArgsRefusal, ArgsRule, BrokenArgs};
