@@ -8,3 +8,4 @@ pub mod RepeatLaws
 pub mod ListLaws
 pub mod DefaultLaws
 pub mod NumberLaws
+pub mod EachFile

@@ -82,3 +82,7 @@ IsAnswerOf foreign ds result =
 -- the answer for a text
 abbrev pub IsAnswer : SdlFile → Result Schema SchemaRefusal → Type 0
 IsAnswer file result = IsAnswerOf (least_of foreign_module file.parts) (decls_of file.parts) result
+
+-- The rules give an answer for a text, and it is not want of memory.
+abbrev pub HasAnswer : SdlFile → Type 0
+HasAnswer file = (result : Result Schema SchemaRefusal) × (result ≡ Err refusal.Memory → ⊥) × IsAnswer file result

@@ -6,6 +6,7 @@
 #![tactic(auto)]
 
 mod known;
+mod laws;
 mod least;
 mod lineage;
 mod link_properties;
@@ -21,5 +22,6 @@ mod twice;
 mod unsupported;
 mod verdict;
 
+pub use laws::each_file_is_answered;
 pub use refusal::{Broken, Rule, SchemaRefusal};
 pub use verdict::{build, empty};
