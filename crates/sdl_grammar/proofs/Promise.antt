@@ -1,9 +1,9 @@
 -- What is promised of the reader of schemas.
-use Rattle.std.proofs.Common.{◌≡◌, ℕ, suc, ◌+◌, ◌≤◌, true, false, List, [], length, refl, arith}
+use Rattle.std.proofs.Common.{◌≡◌, ℕ, suc, ◌+◌, ◌-◌, ◌≤◌, true, false, List, [], length, inl, inr, refl, arith}
 use Rattle.exact.specs.declared.rule.Rule.{Rule}
 use Rattle.exact.specs.declared.rule.Rule.TheVariants.{Unexpected, TooDeep}
 use Rattle.exact.specs.Language.{Lang}
-use Rattle.exact.specs.Reading.{Reader, Got, Stop, whole}
+use Rattle.exact.specs.Reading.{Outcome, Reader, Got, Stop, whole}
 use Rattle.exact.specs.Promise.{Any, IsRefused, Ended}
 use Rattle.exact.proofs.Exact.{IsExact}
 use Rattle.exact.proofs.Laws.{Grows, Loosens, Open, IsExactAt}
@@ -17,7 +17,7 @@ use Rattle.eql_grammar.specs.Readers as query_readers
 use Rattle.eql_grammar.proofs.Levels.{within_known}
 use Rattle.sdl_grammar.specs.Grammar as g
 use Rattle.sdl_grammar.specs.Readers as r
-use Rattle.sdl_grammar.specs.Promise.{SchemaText, IsSchema}
+use Rattle.sdl_grammar.specs.Promise.{SchemaText, IsSchema, IsRead}
 use Rattle.sdl_grammar.proofs.Files.{exact_file}
 
 -- the reader of a file, and of all of the tokens
@@ -105,3 +105,12 @@ refused ts rule rest e k place = refused_too ts rule k (whole_refused Filing fil
 pub left_over : (ts : List Token) (rule : Rule) (rest : List Token) → all ts ≡ Stop rule rest → length rest ≤ length ts
 unfolding all
 left_over = whole_left Filing file (λ _ _. true) exact (λ _. false)
+
+-- Each text spells a schema, or is refused.
+pub each_text : (ts : List Token) → IsRead ts
+each_text ts = by_outcome (all ts) refl where
+  by_outcome : (o : Outcome Token SdlFile) → all ts ≡ o → IsRead ts
+  by_outcome (Got tree rest) e = inl (tree, found ts tree rest e)
+  by_outcome (Stop rule rest) e =
+      let token = length ts - length rest in
+      inr (rule, token, refused ts rule rest e token (omega (arith, left_over ts rule rest e)))

@@ -17,5 +17,5 @@ mod policies;
 mod tests;
 mod values;
 
-pub use laws::{one_schema_refusal, one_schema_tree};
+pub use laws::{each_schema_text, one_schema_refusal, one_schema_tree};
 pub use parse::parse_schema;
