@@ -5,6 +5,8 @@ pub mod DataLaws
 pub mod Decisions
 pub mod Documents
 pub mod DueLaws
+pub mod EachTask
+pub mod EachText
 pub mod HeadlineLaws
 pub mod LimitLaws
 pub mod Lineages

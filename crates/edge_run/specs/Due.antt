@@ -51,3 +51,7 @@ Due (Check schema_name data_name) files v =
 Due (Run schema_name data_name query_name args_name) files v =
     OfDocument AsSchema (files schema_name) (λ schema. OfDocument (AsData schema) (files data_name) (λ store. OfDocument (AsQuery schema) (files query_name)
     (λ query. OfArgs schema files args_name (λ args. OfItems (items_over schema store.objects query args))))) v
+
+-- Some verdict is due for the task: no text that it reads is left without a decision.
+abbrev pub SomethingIsDue : Task → (List ℕ → Option (List ℕ)) → Type 0
+SomethingIsDue task files = (v : Verdict (List ℕ)) × Due task files v

@@ -42,6 +42,10 @@ Decides (AsData schema) text decided = of_data.Decides schema text decided
 Decides (AsQuery schema) text decided = of_query.Decides schema text decided
 Decides (AsArgs schema) text decided = of_args.Decides schema text decided
 
+-- the rules decide something of a text
+abbrev pub IsJudged : (j : Judgement) → List ℕ → Type 0
+IsJudged j text = (decided : Result (Matter j) Refusal) × Decides j text decided
+
 -- what was decided, as the code tells it
 abbrev pub as_told : {A : Type 0} → Result A Refusal → Result A Outcome
 as_told (Ok a) = Ok a

@@ -21,6 +21,9 @@ mod schema;
 #[cfg(test)]
 mod tests;
 
-pub use laws::{accepted_objects_fit, one_decision, one_due, one_query, one_verdict};
+pub use laws::{
+    accepted_objects_fit, each_decision, one_decision, one_due, one_query, one_verdict,
+    something_is_due,
+};
 pub use outcome::{Chan, Doc, Outcome, QueryRefusal, SchemaRefusal, UsageRule, memory_line};
 pub use run::run_words;
