@@ -1,5 +1,5 @@
 -- Objects in order of id.
-use Rattle.std.proofs.Common.{◌≡◌, ◌≢◌, ℕ, ◌==◌, nat_lt, Bool, true, false, List, [], ◌∷◌, Some, cond, refl, ap, ◌∙◌, arith}
+use Rattle.std.proofs.Common.{◌≡◌, ◌≢◌, ℕ, ◌==◌, nat_lt, Bool, true, false, List, [], ◌∷◌, Some, cond, length, suc, refl, ap, ◌∙◌, arith}
 use Rattle.std.proofs.lemmas.Bool.Decides.{nat_tests}
 use Rattle.std.specs.Cmp.{nat_cmp_total}
 use Rattle.std.specs.Ordering.{nat_cmp, is_gt, is_lt, ordering_then, ordering_reverse}
@@ -12,7 +12,7 @@ use Rattle.ev_list.specs.declared.order.Keyed.{Keyed}
 use Rattle.ev_schema.specs.Policies.{by_name}
 use Rattle.db_store.specs.Fits.{Each, Ascend}
 use Rattle.db_store.specs.declared.object.Object.{Object}
-use Rattle.db_check.specs.Check.{keyed_objects, store_of}
+use Rattle.db_check.specs.Check.{keyed_objects, ordered}
 
 -- an object in its place among others, which stand in order of id
 abbrev pub put : Object → List Object → List Object
@@ -75,8 +75,8 @@ keyless_is : (os : List Object) → keyless (keyed_objects os) ≡ os
 keyless_is [] = refl
 keyless_is (o ∷ more) = ap (λ l. o ∷ l) (keyless_is more)
 
-pub store_is : (os : List Object) → (store_of os).objects ≡ by_id os
-store_is os = ap keyless (order_is os) ∙ keyless_is (by_id os)
+pub ordered_is : (os : List Object) → ordered os ≡ by_id os
+ordered_is os = ap keyless (order_is os) ∙ keyless_is (by_id os)
 
 -- ---- it keeps what holds of each, and ascends where ids differ
 
@@ -127,3 +127,20 @@ ascend_put o (p ∷ more) d up = by_test (ascend_put o more d.1 up.1) (nat_lt p.
 pub ascend_by_id : (os : List Object) → IdsDiffer os → Ascend before (by_id os)
 ascend_by_id [] d = tt
 ascend_by_id (o ∷ more) d = ascend_put o (by_id more) (each_by_id (λ (p : Object). o.id ≢ p.id) more d.0) (ascend_by_id more d.1)
+
+-- ---- it keeps how many there are
+
+length_put : (o : Object) (os : List Object) → length (put o os) ≡ suc (length os)
+length_put o [] = refl
+length_put o (p ∷ more) = by_test (length_put o more) (nat_lt p.id o.id)
+  where
+    by_test : length (put o more) ≡ suc (length more) → (b : Bool) → length (cond b (p ∷ put o more) (o ∷ p ∷ more)) ≡ suc (suc (length more))
+    by_test is true = ap suc is
+    by_test is false = refl
+
+length_by_id : (os : List Object) → length (by_id os) ≡ length os
+length_by_id [] = refl
+length_by_id (o ∷ more) = length_put o (by_id more) ∙ ap suc (length_by_id more)
+
+pub length_ordered : (os : List Object) → length (ordered os) ≡ length os
+length_ordered os = ap length (ordered_is os) ∙ length_by_id os

@@ -3,11 +3,13 @@ mod HeadTurns
 mod ObjectTurns
 mod Ruled
 pub mod IdOrder
+pub mod Search
 mod HeadIds
 pub mod Repeats
 mod Clashes
 mod Listed
 pub mod Places
+pub mod Placed
 pub mod Sorted
 pub mod NameOrder
 pub mod NoFlaw

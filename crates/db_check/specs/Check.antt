@@ -1,5 +1,5 @@
 -- The store of some drafts, or the first rule that fails.
-use Rattle.std.specs.Prelude.{ℕ, zero, suc, List, [], ◌∷◌, ◌++◌, length, Option, Some, None, slice_get, Result, Ok, Err}
+use Rattle.std.specs.Prelude.{◌≡◌, ℕ, zero, suc, List, [], ◌∷◌, ◌++◌, length, Option, Some, None, slice_get, Result, Ok, Err}
 use Rattle.ev_value.specs.declared.value.Val.TheVariants as made
 use Rattle.ev_list.specs.Order.{in_order, keyless}
 use Rattle.ev_list.specs.declared.order.Keyed.{Keyed}
@@ -7,6 +7,7 @@ use Rattle.core_ir.specs.declared.path.PtrId.{PtrId}
 use Rattle.ev_schema.specs.Named.{pointers_in_order}
 use Rattle.ev_schema.specs.Policies.{by_name}
 use Rattle.ev_schema.specs.declared.schema.Schema.{Schema}
+use Rattle.ev_schema.specs.declared.types.TypeInfo.{TypeInfo}
 use Rattle.db_store.specs.declared.object.Object.{Object}
 use Rattle.db_draft.specs.First.{or_else}
 use Rattle.db_draft.specs.declared.draft.ObjectDraft.{ObjectDraft}
@@ -17,6 +18,7 @@ use Rattle.db_values.specs.declared.flaw.Flaw.{Flaw}
 use Rattle.db_values.specs.Names.{object_flaw}
 use Rattle.db_values.specs.Made.{object_of}
 use Rattle.db_check.specs.Exclusive.{pointers_at, exclusive}
+use Rattle.db_check.specs.Extent.{extents}
 use Rattle.db_check.specs.declared.store.Store.{Store}
 
 -- the pointers of the first so many types, each type's in byte order of their names
@@ -49,9 +51,13 @@ abbrev pub keyed_objects : List Object → List (Keyed Object)
 keyed_objects [] = []
 keyed_objects (o ∷ more) = record { keys = Some (made.Id o.id) ∷ []; value = o } ∷ keyed_objects more
 
--- the store of some objects, which stand in order of id
-abbrev pub store_of : List Object → Store
-store_of os = record { objects = keyless (in_order by_name (keyed_objects os)) }
+-- objects in order of id
+abbrev pub ordered : List Object → List Object
+ordered os = keyless (in_order by_name (keyed_objects os))
+
+-- the store of some objects over some types
+abbrev pub store_of : List TypeInfo → List Object → Store
+store_of types os = record { objects = ordered os; extents = extents types (ordered os) }
 
 abbrev pub unless : {A : Type 0} → Option Broken → A → Result A Broken
 unless None due = Ok due
@@ -59,7 +65,7 @@ unless (Some b) due = Err b
 
 -- the store of some objects, unless an exclusive value stands twice
 abbrev pub stored : Schema → List (List PtrId) → List Object → Result Store Broken
-stored s orders os = unless (exclusive s.pointers orders os) (store_of os)
+stored s orders os = unless (exclusive s.pointers orders os) (store_of s.types os)
 
 -- the same, unless a rule on the values of one object fails
 abbrev pub valued_with : Schema → List (List PtrId) → List Head → List ObjectDraft → Option Broken → Result Store Broken
@@ -78,3 +84,9 @@ headed s ds (Err b) = Err b
 -- by object and there at the least name; then that on exclusive values.
 abbrev pub checked : Schema → List ObjectDraft → Result Store Broken
 checked s ds = headed s ds (heads s.types ds)
+
+-- Some drafts over some schema write this store, so it breaks no rule.
+pub record IsWritten (st : Store) : Type 0 where
+  pub schema : Schema
+  pub drafts : List ObjectDraft
+  pub is : checked schema drafts ≡ Ok st

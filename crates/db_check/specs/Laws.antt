@@ -17,6 +17,7 @@ use Rattle.db_store.specs.Limits.{same}
 use Rattle.db_store.specs.Objects.{items_at}
 use Rattle.db_store.specs.declared.object.Object.{Object}
 use Rattle.db_check.specs.Check.{checked}
+use Rattle.db_check.specs.Store.{IsOver}
 use Rattle.db_check.specs.declared.store.Store.{Store}
 
 -- the objects of a store stand in order of id, so no id stands twice
@@ -28,6 +29,10 @@ abbrev pub ExclusiveValuesStandOnce : Type 0
 ExclusiveValuesStandOnce = (s : Schema) (ds : List ObjectDraft) (st : Store) → checked s ds ≡ Ok st
     → (p : PtrId) (info : PtrInfo) → slice_get s.pointers p.0 ≡ Some info → list_any is_exclusive info.limits ≡ true
     → has_repeat same (flat_map (λ o. items_at o p) (filter (λ (o : Object). is_subtype s.types o.ty info.origin) st.objects)) ≡ false
+
+-- a store keeps for each type of its schema the places of its objects and of those that extend it
+abbrev pub StoresKeepPlaces : Type 0
+StoresKeepPlaces = (s : Schema) (ds : List ObjectDraft) (st : Store) → checked s ds ≡ Ok st → IsOver s.types st
 
 -- no two elements of a list have one name
 abbrev pub NamesDiffer : {A : Type 0} → (A → List ℕ) → List A → Type 0

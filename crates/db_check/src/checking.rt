@@ -1,11 +1,12 @@
 //! The rules on objects, in their order.
-ghost use Rattle.std.specs.Prelude.{◌≡◌, ◌<◌, ◌^◌, length};
+ghost use Rattle.std.specs.Prelude.{◌≡◌, ◌<◌, ◌^◌, List, length};
 ghost use Rattle.db_draft.specs.Told.{IsAnswer, told};
-ghost use Rattle.db_check.specs.Check.{checked, valued, stored, orders as orders_in};
+ghost use Rattle.db_draft.specs.declared.draft.ObjectDraft.{ObjectDraft};
+ghost use Rattle.db_check.specs.Check.{checked, valued, stored};
 
 use crate::exclusive::check_exclusive;
-use crate::made::{check_values, objects_of, orders, store_of};
-use crate::store::Store;
+use crate::made::{check_values, objects_of, orders};
+use crate::store::{Store, store_of};
 use core_ir::PtrId;
 use db_draft::{DataRefusal, ObjectDraft};
 use db_ids::{Heads, check_heads};
@@ -21,12 +22,13 @@ fn stored_objects(
     orders: &[List<PtrId>],
     objects: List<Object>,
 ) -> Result<Store, DataRefusal>
-    requires { length objects < 2 ^ 32 }
+    requires objects { length objects < 2 ^ 32 }
+    requires written { (drafts : List ObjectDraft) × (checked schema.now drafts ≡ stored schema.now orders.now objects) }
     ensures { IsAnswer result (told (stored schema.now orders.now objects)) }
 {
     let infos = schema.pointers.as_slice();
     match check_exclusive(alloc, infos, orders, objects.as_slice()) {
-        Ok(()) => match store_of(alloc, objects) {
+        Ok(()) => match store_of(alloc, schema, objects) {
             Ok(store) => Ok(store),
             Err(_) => Err(DataRefusal::Memory),
         },
@@ -45,6 +47,7 @@ fn valued_objects(
     requires some { 0 < length schema.now.pointers }
     requires few { length schema.now.pointers < 2 ^ 32 }
     requires objects { length drafts.now < 2 ^ 32 }
+    requires written { checked schema.now drafts.now ≡ valued schema.now orders.now heads.now drafts.now }
     ensures { IsAnswer result (told (valued schema.now orders.now heads.now drafts.now)) }
 {
     match check_values(alloc, schema, orders, heads, drafts) {

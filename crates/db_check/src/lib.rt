@@ -7,11 +7,14 @@
 
 mod checking;
 mod exclusive;
+mod extent;
 mod holders;
 mod laws;
 mod made;
 mod store;
 
 pub use checking::check;
-pub use laws::{exclusive_values_stand_once, stores_fit, stores_stand_in_order};
+pub use laws::{
+    exclusive_values_stand_once, stores_fit, stores_keep_places, stores_stand_in_order,
+};
 pub use store::Store;

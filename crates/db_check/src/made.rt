@@ -1,18 +1,16 @@
 //! The objects that drafts write, and what fails in one.
-ghost use Rattle.std.specs.Prelude.{◌≡◌, ◌<◌, ◌^◌, ◌∷◌, [], length, zero, Some, IfOk};
+ghost use Rattle.std.specs.Prelude.{◌≡◌, ◌<◌, ◌^◌, length, zero, Some, IfOk};
 ghost use Rattle.db_draft.specs.Told.{IsAnswer, ruled};
-ghost use Rattle.db_check.specs.Check.{orders as orders_in, told_flaw, values_from, objects_of as objects_of_drafts, keyed_objects as keyed_objects_of, store_of as store_of_objects};
+ghost use Rattle.db_check.specs.Check.{orders as orders_in, told_flaw, values_from, objects_of as objects_of_drafts};
 
 use crate::exclusive::pointers_at;
-use crate::store::Store;
 use core_ir::{PtrId, TypeId};
 use db_draft::{Broken, DataRefusal, ObjectDraft};
-use db_ids::{Head, Heads};
+use db_ids::Heads;
 use db_store::Object;
 use db_values::{Flaw, object_flaw, object_of};
-use ev_list::{Absent, Direction, KeyOrder, Keyed, backward, in_order, keyless};
 use ev_schema::Schema;
-use ev_value::{List, Val};
+use ev_value::List;
 use std::alloc::{AllocError, Global};
 
 /// The pointers of each type, in byte order of their names.
@@ -87,42 +85,4 @@ pub fn objects_of(
         objects.push(object_of(alloc, schema, head.id, head.ty, listed, members)?)?;
     }
     Ok(objects)
-}
-
-fn keyed(alloc: Global, object: Object) -> Result<Keyed<Object>, AllocError>
-    ensures { IfOk result (λ k. k ∷ [] ≡ keyed_objects_of (object ∷ [])) }
-{
-    let mut keys = List::new(alloc);
-    keys.push(Some(Val::Id(object.id)))?;
-    Ok(Keyed {
-        keys,
-        value: object,
-    })
-}
-
-/// Objects with their ids as keys.
-fn keyed_objects(alloc: Global, objects: List<Object>) -> Result<List<Keyed<Object>>, AllocError>
-    ensures { IfOk result (λ l. l ≡ keyed_objects_of objects) }
-{
-    let mut left = backward(alloc, objects)?;
-    let mut all = List::new(alloc);
-    while let Some(object) = left.pop() {
-        all.push(keyed(alloc, object)?)?;
-    }
-    Ok(all)
-}
-
-/// By id.
-const BY_ID: KeyOrder = KeyOrder {
-    direction: Direction::Ascending,
-    absent: Absent::First,
-};
-
-/// The store of some objects.
-pub fn store_of(alloc: Global, objects: List<Object>) -> Result<Store, AllocError>
-    ensures { IfOk result (λ s. s ≡ store_of_objects objects) }
-{
-    let all = keyed_objects(alloc, objects)?;
-    let objects = keyless(alloc, in_order(alloc, &[BY_ID], all)?)?;
-    Ok(Store { objects })
 }

@@ -78,7 +78,7 @@ fn census(alloc: Global, schema: &Schema, store: &Store) -> Result<Bytes, AllocE
     ensures { IfOk result (λ line. line ≡ census_of schema.now store.now) }
 {
     let types = schema.types.len();
-    let objects = store.objects.len();
+    let objects = store.objects().len();
     let line = format!(in alloc; "types {types} objects {objects}\n")?;
     Ok(Bytes::from_vec(line.into_bytes()))
 }
@@ -122,7 +122,7 @@ fn run_answer<H: Shelf>(
     let store = read_data(alloc, shelf, &schema, data_name)?;
     let query = read_query(alloc, shelf, &schema, query_name)?;
     let args = given_args(alloc, shelf, &schema, args_name)?;
-    answer_over(alloc, &schema, store.objects.as_slice(), &query, &args)
+    answer_over(alloc, &schema, store.objects(), &query, &args)
 }
 
 #[tactic(auto, using(crate::proofs::PlanLaws::refused))]

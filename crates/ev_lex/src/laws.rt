@@ -1,5 +1,5 @@
 //! Laws of the reading of a text.
-ghost use Rattle.std.specs.Prelude.{◌≡◌, ◌⊎◌, ℕ, List};
+ghost use Rattle.std.specs.Prelude.{◌≡◌, ℕ, List};
 ghost use Rattle.ev_lex.specs.Reading.{IsCut, IsRefused, IsRead};
 ghost use Rattle.ev_lex.specs.declared.token.Token.{Token};
 

@@ -81,7 +81,7 @@ fn tables_in(alloc: Global, schema: &Schema, text: &str) -> Option<Tables> {
         return None;
     }
     match load(alloc, schema, text.as_bytes()) {
-        Ok(store) => encode(alloc, schema, store.objects.as_slice()).ok(),
+        Ok(store) => encode(alloc, schema, store.objects()).ok(),
         Err(_) => None,
     }
 }

@@ -1,11 +1,11 @@
 //! Texts of data over two schemas, with what comes of them.
 
 use core_ir::TypeId;
+use db_check::Store;
 use db_draft::{DataRefusal, Rule};
 use db_load::load;
 use ev_lex::{Tokens, lex};
 use ev_schema::Schema;
-use ev_value::List;
 use schema_build::build;
 use sdl_parse::parse_schema;
 use std::alloc::Global;
@@ -375,7 +375,7 @@ fn outcome(alloc: Global, schema: &Schema, text: &[u8]) -> Option<Outcome> {
         return None;
     }
     match load(alloc, schema, text) {
-        Ok(store) => Some(Ok(store.objects.len())),
+        Ok(store) => Some(Ok(store.objects().len())),
         Err(DataRefusal::Rule(broken)) => Some(Err((broken.rule, broken.object, broken.other))),
         Err(DataRefusal::Memory) => None,
     }
@@ -432,31 +432,36 @@ fn data_without_its_end_is_no_json(rt: HostRuntime) -> Result<(), Fail> {
 static TURNED: &str =
     r#"{"format":1,"objects":[{"id":"00000000-0000-0000-0000-000000000003","type":"User","name":"Cid"},{"id":"00000000-0000-0000-0000-000000000002","type":"User","name":"Bob"},{"id":"00000000-0000-0000-0000-000000000001","type":"Post","title":"A","author":"00000000-0000-0000-0000-000000000003"}]}"#;
 
-/// The places of the objects of a type in the store of a text. None where there is no store, or memory ran out.
-fn places(alloc: Global, schema: &Schema, text: &[u8], ty: u32) -> Option<List<u32>> {
+/// The store of those three. None where there is none, or memory ran out.
+fn turned(alloc: Global, schema: &Schema) -> Option<Store> {
     if schema.types.len() > 10000 || schema.pointers.is_empty() || schema.pointers.len() > 10000 {
         return None;
     }
-    match load(alloc, schema, text) {
-        Ok(store) if store.objects.len() < 10000 => store.extent(alloc, schema, TypeId(ty)).ok(),
-        Ok(_) | Err(_) => None,
-    }
-}
-
-fn are_places(alloc: Global, schema: &Schema, ty: u32, due: &[u32]) -> bool {
-    match places(alloc, schema, TURNED.as_bytes(), ty) {
-        Some(places) => places.as_slice() == due,
-        None => false,
-    }
+    load(alloc, schema, TURNED.as_bytes()).ok()
 }
 
 #[test]
 fn a_type_has_the_objects_of_those_that_extend_it(rt: HostRuntime) -> Result<(), Fail> {
     let alloc = rt.alloc();
     let schema = schema_in(alloc, PEOPLE).ok_or("there is no schema")?;
+    let store = turned(alloc, &schema).ok_or("there is no store")?;
     // The types are `Named`, `User` and `Post`, in the order of the text.
-    assert!(rt; are_places(alloc, &schema, 0, &[1, 2]));
-    assert!(rt; are_places(alloc, &schema, 1, &[1, 2]));
-    assert!(rt; are_places(alloc, &schema, 2, &[0]));
+    assert_eq!(rt; store.extent(TypeId(0)), [1, 2].as_slice());
+    assert_eq!(rt; store.extent(TypeId(1)), [1, 2].as_slice());
+    assert_eq!(rt; store.extent(TypeId(2)), [0].as_slice());
+    Ok(())
+}
+
+#[test]
+fn an_object_is_found_by_its_id(rt: HostRuntime) -> Result<(), Fail> {
+    let alloc = rt.alloc();
+    let schema = schema_in(alloc, PEOPLE).ok_or("there is no schema")?;
+    let store = turned(alloc, &schema).ok_or("there is no store")?;
+    for id in 1..4u128 {
+        let object = store.find(id).ok_or("there is no such object")?;
+        assert_eq!(rt; object.id, id);
+    }
+    assert!(rt; store.find(0).is_none());
+    assert!(rt; store.find(4).is_none());
     Ok(())
 }

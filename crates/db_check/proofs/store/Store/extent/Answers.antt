@@ -1,15 +1,19 @@
-use Rattle.std.proofs.Common.{◌++◌, ◌≤◌, length, subst, sym, ap, ◌∙◌, append-nil}
-use Rattle.std.proofs.lemmas.List.{at_drop_all}
-use Rattle.db_check.specs.Extent.{extent_from}
-use Rattle.db_check.proofs.Places.{are_places}
+use Rattle.std.proofs.Common.{slice_get, ap, ◌∙◌}
+use Rattle.db_check.specs.Store.{StoreView, kept_if_known, kept_places}
+use Rattle.db_check.proofs.Places.{are_places, kept_is, none_kept}
 use Rattle.db_check.proofs.store.Store.extent.Goals as goal
 
+pub returns-clause-kept : goal.returns-clause-kept
+returns-clause-kept c =
+    c.places_at.ensures
+    ∙ ap (λ l. kept_if_known (slice_get l c.args.ty.0)) c.as_slice.ensures
+    ∙ ap (λ (st : StoreView). kept_places st c.args.ty) c.self.view_is
+
+pub returns-clause-places : goal.returns-clause-places
+returns-clause-places c types over known = returns-clause-kept c ∙ kept_is types c.args.self.now c.args.ty over known
+
+pub returns-clause-others : goal.returns-clause-others
+returns-clause-others c types over unknown = returns-clause-kept c ∙ none_kept types c.args.self.now c.args.ty over unknown
+
 pub returns-clause-objects : goal.returns-clause-objects
-returns-clause-objects c =
-    let types = c.args.schema.now.types in
-    let os = c.args.self.now.objects in
-    let places = c.loop-i.places in
-    are_places types c.args.ty os places
-    (sym (append-nil places)
-    ∙ sym (ap (λ l. places ++ extent_from types c.args.ty c.loop-i.i l) (at_drop_all (λ l. l) os c.loop-i.i (subst (λ l. length l ≤ c.loop-i.i) c.as_slice-object-items.ensures c.loop-i-test.false)))
-    ∙ c.loop-i.invariant)
+returns-clause-objects c types over known = are_places types c.args.ty c.args.self.now.objects _ (returns-clause-places c types over known)
