@@ -11,7 +11,9 @@ use Rattle.sdl_ast.specs.declared.declaration.Decl.TheVariants as decl
 use Rattle.schema_build.specs.declared.names.Meant.{Meant}
 use Rattle.schema_build.specs.declared.names.Meant.TheVariants as meant
 use Rattle.schema_build.specs.Lineage.{object_in, IsSmall, numbers_of, bases_of, at}
-use Rattle.schema_build.specs.Names.{place_of, scalar_named, as_scalar, as_object, or_object, in_module, meaning_of}
+use Rattle.ev_names.specs.Names.{place_of}
+use Rattle.ev_names.specs.Scalar.{scalar_named}
+use Rattle.schema_build.specs.Names.{as_scalar, as_object, or_object, in_module, meaning_of}
 use Rattle.schema_build.specs.Search.{AreWithin}
 use Rattle.schema_build.specs.Twice.{type_names}
 use Rattle.schema_build.proofs.SearchLaws.{none_in, only}

@@ -1,5 +1,5 @@
 -- Each surface tree of a schema has an answer that is not want of memory.
-use Rattle.std.proofs.Common.{◌≡◌, ◌⊎◌, ℕ, zero, suc, ◌+◌, ◌<◌, Bool, true, false, List, [], ◌∷◌, ◌++◌, length, Option, Some, None, Result, Err, inl, inr, refl, ap, arith, rules}
+use Rattle.std.proofs.Common.{◌≡◌, ◌⊎◌, ℕ, zero, suc, ◌<◌, Bool, true, false, List, [], ◌∷◌, ◌++◌, length, Option, Some, None, Result, Err, inl, inr, refl, ap, arith, rules}
 use Rattle.std.specs.List.{list_any}
 use Rattle.core_ir.specs.declared.path.TypeId.{TypeId}
 use Rattle.ev_schema.specs.declared.schema.Schema.{Schema}

@@ -1,6 +1,5 @@
 pub mod LeastLaws
 pub mod Forms
-pub mod NameLaws
 pub mod SearchLaws
 pub mod BaseLaws
 pub mod VerdictLaws

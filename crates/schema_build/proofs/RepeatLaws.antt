@@ -3,7 +3,7 @@ use Rattle.std.proofs.Common.{◌≡◌, ℕ, suc, Bool, true, false, ◌||◌, 
 use Rattle.std.specs.List.{list_any}
 use Rattle.std.specs.Str.{bytes_eq}
 use Rattle.ev_list.specs.Occurrence.{has_repeat}
-use Rattle.schema_build.specs.Names.{place_of, is_among}
+use Rattle.ev_names.specs.Names.{place_of, is_among}
 use Rattle.schema_build.specs.Lineage.{shares}
 
 -- a name among those seen, or twice

@@ -13,7 +13,8 @@ use Rattle.sdl_ast.specs.declared.item.Item.{Item}
 use Rattle.sdl_ast.specs.declared.item.Item.TheVariants as item
 use Rattle.schema_build.specs.declared.names.Meant.{Meant}
 use Rattle.schema_build.specs.Least.{at_if, least_of}
-use Rattle.schema_build.specs.Names.{meaning_of, start_of, is_object, is_scalar}
+use Rattle.ast.specs.Name.{start_of}
+use Rattle.schema_build.specs.Names.{meaning_of, is_object, is_scalar}
 
 -- what `property` and `link` take: a scalar type, an object type; without either word, any type
 abbrev pub takes : Option PointerKind → Option Meant → Bool

@@ -13,7 +13,8 @@ use Rattle.sdl_ast.specs.declared.member.Member.TheVariants as member
 use Rattle.schema_build.specs.declared.names.Meant.{Meant}
 use Rattle.schema_build.specs.declared.names.Meant.TheVariants as meant
 use Rattle.schema_build.specs.Least.{at_if, sooner}
-use Rattle.schema_build.specs.Names.{meaning_of, is_among}
+use Rattle.ev_names.specs.Names.{is_among}
+use Rattle.schema_build.specs.Names.{meaning_of}
 
 -- the number of the object type that is meant, if one is
 abbrev pub object_in : Option Meant → List TypeId

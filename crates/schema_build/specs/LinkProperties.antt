@@ -9,7 +9,8 @@ use Rattle.sdl_ast.specs.declared.item.Item.{Item}
 use Rattle.sdl_ast.specs.declared.item.Item.TheVariants as item
 use Rattle.schema_build.specs.declared.names.Meant.{Meant}
 use Rattle.schema_build.specs.Least.{at_if, sooner}
-use Rattle.schema_build.specs.Names.{meaning_of, is_object, is_scalar, is_among}
+use Rattle.ev_names.specs.Names.{is_among}
+use Rattle.schema_build.specs.Names.{meaning_of, is_object, is_scalar}
 
 -- whether `required` is written
 abbrev pub is_required : Option Need → Bool

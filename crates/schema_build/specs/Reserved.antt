@@ -9,7 +9,7 @@ use Rattle.sdl_ast.specs.declared.member.Member.TheVariants as member
 use Rattle.sdl_ast.specs.declared.item.Item.{Item}
 use Rattle.sdl_ast.specs.declared.item.Item.TheVariants as item
 use Rattle.schema_build.specs.Least.{at_if}
-use Rattle.schema_build.specs.Names.{scalar_named}
+use Rattle.ev_names.specs.Scalar.{scalar_named}
 
 -- a name that begins with two low lines
 abbrev pub is_dunder : List ℕ → Bool

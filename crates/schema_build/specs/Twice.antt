@@ -3,7 +3,7 @@ use Rattle.std.specs.Prelude.{ℕ, List, [], ◌∷◌, ◌++◌, Option, None}
 use Rattle.sdl_ast.specs.declared.declaration.Decl.{Decl}
 use Rattle.sdl_ast.specs.declared.declaration.Decl.TheVariants as decl
 use Rattle.schema_build.specs.Least.{at_if, sooner}
-use Rattle.schema_build.specs.Names.{is_among}
+use Rattle.ev_names.specs.Names.{is_among}
 
 -- the name of a type that is declared
 abbrev pub type_name : Decl → List (List ℕ)

@@ -4,8 +4,9 @@ ghost use Rattle.schema_build.specs.Known as spec;
 ghost use Rattle.schema_build.specs.Least.{least_of};
 
 use crate::least::{at_if, sooner};
-use crate::names::{Meant, Names, is_object, is_scalar, start_of};
+use crate::names::{Meant, is_object, is_scalar, meaning_of};
 use ast::QualifiedName;
+use ev_names::Names;
 use sdl_ast::{Decl, Item, Member, PointerBody, PointerKind};
 
 fn takes(kind: Option<PointerKind>, meant: Option<Meant>) -> bool
@@ -22,7 +23,7 @@ fn takes(kind: Option<PointerKind>, meant: Option<Meant>) -> bool
 fn bad_base(types: &Names, base: &QualifiedName) -> Option<u32>
     ensures { result ≡ spec.bad_base types.now base.now }
 {
-    at_if(!is_object(types.meaning_of(base)), start_of(base))
+    at_if(!is_object(meaning_of(types, base)), base.start())
 }
 
 #[tactic(auto, using(crate::proofs::LeastLaws::sooner_none, crate::proofs::LeastLaws::sooner_assoc))]
@@ -42,10 +43,7 @@ pub fn unknown_decl(types: &Names, decl: &Decl) -> Option<u32>
 {
     match decl {
         Decl::Type(_, found) => bad_bases(types, found.bases.as_slice()),
-        Decl::Global(_, found) => at_if(
-            !is_scalar(types.meaning_of(&found.ty)),
-            start_of(&found.ty),
-        ),
+        Decl::Global(_, found) => at_if(!is_scalar(meaning_of(types, &found.ty)), found.ty.start()),
     }
 }
 
@@ -53,7 +51,7 @@ fn unknown_body(types: &Names, kind: Option<PointerKind>, body: &PointerBody) ->
     ensures { result ≡ spec.unknown_body types.now kind body.now }
 {
     match body {
-        PointerBody::Stored(name, _) => at_if(!takes(kind, types.meaning_of(name)), start_of(name)),
+        PointerBody::Stored(name, _) => at_if(!takes(kind, meaning_of(types, name)), name.start()),
         PointerBody::Computed(_) => None,
     }
 }
@@ -76,8 +74,8 @@ pub fn unknown_item(types: &Names, item: &Item) -> Option<u32>
 {
     match item {
         Item::Property(_, property) => at_if(
-            !takes(property.kind, types.meaning_of(&property.ty)),
-            start_of(&property.ty),
+            !takes(property.kind, meaning_of(types, &property.ty)),
+            property.ty.start(),
         ),
         Item::Constraint(_, _) => None,
         Item::Default(_, _) => None,

@@ -5,9 +5,10 @@ ghost use Rattle.schema_build.specs.Search as search;
 ghost use Rattle.schema_build.specs.Twice.{type_names};
 
 use crate::least::{at_if, sooner};
-use crate::names::{Meant, Names};
+use crate::names::{Meant, meaning_of};
 use ast::QualifiedName;
 use core_ir::TypeId;
+use ev_names::Names;
 use ev_value::{List, Text};
 use sdl_ast::{Decl, Member};
 use std::alloc::{AllocError, Global};
@@ -33,7 +34,7 @@ fn numbers_of(
 {
     let mut numbers = List::new(alloc);
     for base in bases {
-        add_object(&mut numbers, types.meaning_of(base))?;
+        add_object(&mut numbers, meaning_of(types, base))?;
     }
     Ok(numbers)
 }

@@ -3,8 +3,9 @@ ghost use Rattle.std.specs.Prelude.{◌≡◌, ◌++◌, [], IfOk, OnOk};
 ghost use Rattle.schema_build.specs.LinkProperties as spec;
 
 use crate::least::{at_if, sooner};
-use crate::names::{Meant, Names, is_object, is_scalar};
+use crate::names::{Meant, is_object, is_scalar, meaning_of};
 use ast::{Need, Qualifiers, Width};
+use ev_names::Names;
 use sdl_ast::Item;
 use std::alloc::{AllocError, Global};
 
@@ -40,7 +41,7 @@ pub fn misplaced_item(types: &Names, meant: Option<Meant>, item: &Item) -> Optio
 {
     match item {
         Item::Property(span, property) => {
-            let has_scalar = is_scalar(types.meaning_of(&property.ty));
+            let has_scalar = is_scalar(meaning_of(types, &property.ty));
             let suits = is_plain(property.qualifiers) && (has_scalar && is_object(meant));
             at_if(!suits, span.start)
         }

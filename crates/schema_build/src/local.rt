@@ -6,10 +6,11 @@ ghost use Rattle.schema_build.specs.Local as spec;
 use crate::known::{unknown_decl, unknown_item, unknown_member};
 use crate::least::sooner;
 use crate::link_properties::{misplaced_item, repeated_items};
-use crate::names::{Meant, Names};
+use crate::names::{Meant, meaning_of};
 use crate::reserved::{reserved_decl, reserved_item, reserved_member};
 use crate::suits::unsuited_item;
 use crate::unsupported::{unsupported_item, unsupported_member};
+use ev_names::Names;
 use sdl_ast::{Decl, Item, Member, PointerBody};
 use std::alloc::{AllocError, Global};
 
@@ -88,7 +89,7 @@ fn in_body(
         PointerBody::Stored(name, items) => {
             let items = items.as_slice();
             let whole = at_items(alloc, rule, items)?;
-            Ok(sooner(whole, in_items(types, rule, types.meaning_of(name), items)))
+            Ok(sooner(whole, in_items(types, rule, meaning_of(types, name), items)))
         }
         PointerBody::Computed(_) => Ok(None),
     }

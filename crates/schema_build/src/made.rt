@@ -6,11 +6,12 @@ ghost use Rattle.schema_build.specs.Lineage.{IsSmall};
 use crate::lineage::at;
 use crate::link_properties::{is_multi, is_required};
 use crate::literal::literal;
-use crate::names::{Meant, Names};
+use crate::names::{Meant, meaning_of};
 use crate::suits::{Constraining, constraint_named};
 use ast::{Expr, QualifiedName, Qualifiers};
 use core_ir::{Card, PtrId, Ty, TypeId};
 use ev_list::{Absent, Direction, KeyOrder, Keyed, in_order, keyless};
+use ev_names::Names;
 use ev_schema::{Body, GlobalInfo, Limit, LinkProperty, PtrInfo, TypeInfo};
 use ev_value::{List, ScalarTy, Text, Val};
 use sdl_ast::{Decl, Item, Member, Pointer, PointerBody};
@@ -236,7 +237,7 @@ fn add_property(
 {
     match item {
         Item::Property(_, property) => {
-            let ty = scalar_of(types.meaning_of(&property.ty));
+            let ty = scalar_of(meaning_of(types, &property.ty));
             properties.push(keyed_property(alloc, &property.name.text, ty)?)
         }
         Item::Constraint(_, _) => Ok(()),
@@ -296,7 +297,7 @@ fn stored_info(
         name,
         origin,
         card: card_of(pointer.qualifiers),
-        body: Body::Stored(type_of(alloc, types.meaning_of(ty))),
+        body: Body::Stored(type_of(alloc, meaning_of(types, ty))),
         limits,
         link_props,
         default,
@@ -400,7 +401,7 @@ fn global_info(
 {
     Ok(GlobalInfo {
         name: name.copied(alloc)?,
-        ty: scalar_of(types.meaning_of(ty)),
+        ty: scalar_of(meaning_of(types, ty)),
     })
 }
 

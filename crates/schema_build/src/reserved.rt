@@ -3,7 +3,7 @@ ghost use Rattle.std.specs.Prelude.{◌≡◌};
 ghost use Rattle.schema_build.specs.Reserved as spec;
 
 use crate::least::at_if;
-use crate::names::scalar_named;
+use ev_names::scalar_named;
 use ev_value::Text;
 use sdl_ast::{Decl, Item, Member};
 

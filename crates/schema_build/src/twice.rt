@@ -3,7 +3,7 @@ ghost use Rattle.std.specs.Prelude.{◌≡◌, ◌++◌, IfOk, OnOk};
 ghost use Rattle.schema_build.specs.Twice as spec;
 
 use crate::least::{at_if, sooner};
-use crate::names::Names;
+use ev_names::Names;
 use sdl_ast::Decl;
 use std::alloc::{AllocError, Global};
 

@@ -7,7 +7,8 @@ use Rattle.db_store.specs.Fits.{Each, Ascend, text_before}
 use Rattle.schema_build.specs.Least.{at_if}
 use Rattle.schema_build.specs.LinkProperties.{repeated_items}
 use Rattle.schema_build.specs.Made.{scalar_of, properties_in, link_properties}
-use Rattle.schema_build.specs.Names.{is_among, meaning_of}
+use Rattle.ev_names.specs.Names.{is_among}
+use Rattle.schema_build.specs.Names.{meaning_of}
 use Rattle.sdl_ast.specs.declared.item.Item.{Item}
 use Rattle.sdl_ast.specs.declared.item.Item.TheVariants as item
 use Rattle.db_check.specs.Laws.{NamesDiffer}

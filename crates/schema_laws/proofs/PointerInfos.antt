@@ -14,7 +14,8 @@ use Rattle.schema_build.specs.Least.{least_of}
 use Rattle.schema_build.specs.LinkProperties.{is_required, is_multi, repeated_items}
 use Rattle.schema_build.specs.Local.{at_decl, at_item, in_body, in_member, in_decl, fails_in}
 use Rattle.schema_build.specs.Made.{bounds, type_of, pointer_info, pointers_in, pointers_from}
-use Rattle.schema_build.specs.Names.{meaning_of, start_of}
+use Rattle.ast.specs.Name.{start_of}
+use Rattle.schema_build.specs.Names.{meaning_of}
 use Rattle.schema_build.specs.declared.local.LocalRule.TheVariants as rule
 use Rattle.schema_build.specs.declared.names.Meant.{Meant}
 use Rattle.schema_build.specs.declared.names.Meant.TheVariants as meant

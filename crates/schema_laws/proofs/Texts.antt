@@ -6,7 +6,7 @@ use Rattle.std.specs.Str.{bytes_eq}
 use Rattle.ev_list.specs.Occurrence.{has_repeat}
 use Rattle.db_store.specs.Fits.{Each}
 use Rattle.schema_build.specs.Lineage.{shares}
-use Rattle.schema_build.specs.Names.{place_of, is_among}
+use Rattle.ev_names.specs.Names.{place_of, is_among}
 use Rattle.db_check.specs.Laws.{NamesDiffer}
 use Rattle.db_check.proofs.IdOrder.{each_more}
 use Rattle.db_check.proofs.NoFlaw.{neither, each_not}
