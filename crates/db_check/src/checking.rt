@@ -26,7 +26,7 @@ fn stored_objects(
     requires written { (drafts : List ObjectDraft) × (checked schema.now drafts ≡ stored schema.now orders.now objects) }
     ensures { IsAnswer result (told (stored schema.now orders.now objects)) }
 {
-    let infos = schema.pointers.as_slice();
+    let infos = schema.pointers();
     match check_exclusive(alloc, infos, orders, objects.as_slice()) {
         Ok(()) => match store_of(alloc, schema, objects) {
             Ok(store) => Ok(store),
@@ -81,7 +81,7 @@ pub fn check(
     if drafts.len() > u32::MAX as usize {
         return Err(DataRefusal::Memory);
     }
-    match check_heads(alloc, schema.types.as_slice(), drafts.as_slice()) {
+    match check_heads(alloc, schema.types(), drafts.as_slice()) {
         Ok(heads) => match orders(alloc, schema) {
             Ok(orders) => valued_objects(
                 alloc,

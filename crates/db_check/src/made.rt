@@ -19,7 +19,7 @@ pub fn orders(alloc: Global, schema: &Schema) -> Result<List<List<PtrId>>, Alloc
     ensures { IfOk result (λ l. l ≡ orders_in schema.now) }
 {
     let mut all = List::new(alloc);
-    for k in 0..schema.types.len() {
+    for k in 0..schema.types().len() {
         all.push(schema.pointers_in_order(alloc, TypeId(k as u32))?)?;
     }
     Ok(all)

@@ -130,6 +130,6 @@ pub fn store_of(alloc: Global, schema: &Schema, objects: List<Object>) -> Result
     ensures { IfOk result (λ s. s ≡ store_of_objects schema.now.types objects) }
 {
     let objects = ordered(alloc, objects)?;
-    let extents = extents(alloc, schema.types.as_slice(), objects.as_slice())?;
+    let extents = extents(alloc, schema.types(), objects.as_slice())?;
     Ok(Store { objects, extents })
 }

@@ -91,7 +91,7 @@ fn globals_in(
 ) -> Result<List<Argument>, ArgsRefusal>
     ensures { IsAnswer result (globals_of schema.now (members_view map.entries)) }
 {
-    match wanted_globals(alloc, schema.globals.as_slice()) {
+    match wanted_globals(alloc, schema.globals()) {
         Ok(wanted) => arguments(alloc, true, wanted.as_slice(), map),
         Err(_) => Err(ArgsRefusal::Memory),
     }

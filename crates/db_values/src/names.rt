@@ -32,7 +32,7 @@ fn is_unknown_key(schema: &Schema, ty: TypeId, key: &Text) -> bool
     ensures { result ≡ is_unknown_key_in schema.now ty key.now }
 {
     match schema.pointer(ty, key.as_str()) {
-        Some(pointer) => match at(schema.pointers.as_slice(), pointer.0 as usize) {
+        Some(pointer) => match at(schema.pointers(), pointer.0 as usize) {
             Some(info) => !is_stored(&info.body),
             None => true,
         },
@@ -142,7 +142,7 @@ fn flaw_at(
 ) -> Result<Option<Flawed>, AllocError>
     ensures { IfOk result (λ f. f ≡ flaw_if_known schema.now.types heads.now members.now pointer (slice_get schema.now.pointers pointer.0)) }
 {
-    let Some(info) = at(schema.pointers.as_slice(), pointer.0 as usize) else {
+    let Some(info) = at(schema.pointers(), pointer.0 as usize) else {
         return Ok(None);
     };
     let draft = member(members, info.name.as_str());
@@ -214,5 +214,5 @@ pub fn object_flaw(
 {
     let unknown = least_unknown(schema, ty, members);
     let flawed = first_flawed(alloc, schema, heads, members, listed)?;
-    Ok(sooner(schema.pointers.as_slice(), unknown, flawed))
+    Ok(sooner(schema.pointers(), unknown, flawed))
 }

@@ -177,6 +177,6 @@ pub fn object_of(
 ) -> Result<Object, AllocError>
     ensures { IfOk result (λ o. o ≡ object_of_draft schema.now.pointers id ty listed.now members.now) }
 {
-    let values = entries(alloc, schema.pointers.as_slice(), listed, members)?;
+    let values = entries(alloc, schema.pointers(), listed, members)?;
     Ok(Object { id, ty, values })
 }

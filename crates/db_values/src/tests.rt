@@ -57,7 +57,7 @@ fn told(alloc: Global, key: &str, value: Draft) -> Result<Option<Rule>, AllocErr
     let ty = TypeId(0);
     let listed = schema.pointers_in_order(alloc, ty)?;
     let name = Text::from_str(alloc, key)?;
-    if schema.pointers.is_empty() || schema.pointers.len() > 2 {
+    if schema.pointers().is_empty() || schema.pointers().len() > 2 {
         return Ok(Some(Rule::X1));
     }
     let heads = Heads::new(alloc);

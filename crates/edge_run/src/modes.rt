@@ -77,7 +77,7 @@ fn const_answer<H: Shelf>(alloc: Global, shelf: &mut H, query_name: &Text) -> Re
 fn census(alloc: Global, schema: &Schema, store: &Store) -> Result<Bytes, AllocError>
     ensures { IfOk result (λ line. line ≡ census_of schema.now store.now) }
 {
-    let types = schema.types.len();
+    let types = schema.types().len();
     let objects = store.objects().len();
     let line = format!(in alloc; "types {types} objects {objects}\n")?;
     Ok(Bytes::from_vec(line.into_bytes()))

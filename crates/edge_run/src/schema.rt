@@ -88,7 +88,7 @@ pub fn decide_schema(alloc: Global, text: &[u8]) -> Result<Schema, Outcome>
 pub fn is_numbered(schema: &Schema) -> bool
     ensures { IsTrue result ↔ (length schema.now.types < 2 ^ 32 × (0 < length schema.now.pointers × length schema.now.pointers < 2 ^ 32)) }
 {
-    schema.types.len() <= u32::MAX as usize
-        && !schema.pointers.is_empty()
-        && schema.pointers.len() <= u32::MAX as usize
+    schema.types().len() <= u32::MAX as usize
+        && !schema.pointers().is_empty()
+        && schema.pointers().len() <= u32::MAX as usize
 }

@@ -38,7 +38,7 @@ fn is_property(body: &Body) -> bool
 fn is_stored_property(schema: &Schema, pointer: PtrId) -> bool
     ensures { result ≡ spec.is_stored_property (slice_get schema.now.pointers pointer.0) }
 {
-    match at(schema.pointers.as_slice(), pointer.0 as usize) {
+    match at(schema.pointers(), pointer.0 as usize) {
         Some(info) => is_property(&info.body) && info.card.is_single(),
         None => false,
     }
@@ -51,7 +51,7 @@ fn stored_property(schema: &Schema, ty: &str, name: &str) -> Option<(TypeId, Ptr
     requires few { length schema.now.pointers < 2 ^ 32 }
     ensures { result ≡ spec.stored_property schema.now ty.now name.now }
 {
-    let ty = type_named(schema.types.as_slice(), ty)?;
+    let ty = type_named(schema.types(), ty)?;
     let pointer = schema.pointer(ty, name)?;
     if is_stored_property(schema, pointer) {
         Some((ty, pointer))

@@ -119,7 +119,7 @@ fn query(alloc: Global, subject: ast::Expr) -> Result<Query, AllocError> {
 fn built(alloc: Global, subject: ast::Expr) -> Result<Option<Scope>, AllocError> {
     let query = query(alloc, subject)?;
     let schema = schema(alloc)?;
-    if schema.types.len() > 2 || schema.pointers.is_empty() || schema.pointers.len() > 4 {
+    if schema.types().len() > 2 || schema.pointers().is_empty() || schema.pointers().len() > 4 {
         return Ok(None);
     }
     match build_query(alloc, &schema, &query) {

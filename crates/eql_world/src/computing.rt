@@ -95,7 +95,7 @@ pub fn columns(
     ensures { IfOk result (λ cs. IsWhole schema.now objects.now args.now cs) }
 {
     let mut columns = List::new(alloc);
-    for computed in schema.computed.as_slice() {
+    for computed in schema.all_computed() {
         add_column(alloc, schema, objects, args, computed, &mut columns)?;
     }
     Ok(columns)

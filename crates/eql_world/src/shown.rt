@@ -70,7 +70,7 @@ fn applies(
     requires { IsWhole world.now.schema.now world.now.objects.now world.now.args.now world.now.columns.now }
     ensures { IfOk result (λ b. b ≡ applies_to world.now.schema.now world.now.objects.now world.now.args.now object.now rule) }
 {
-    let conditions = world.schema.conditions.as_slice();
+    let conditions = world.schema.conditions();
     holds_for(alloc, world, at(conditions, rule), object)
 }
 
@@ -85,7 +85,7 @@ fn speaks(
     requires { IsWhole world.now.schema.now world.now.objects.now world.now.args.now world.now.columns.now }
     ensures { IfOk result (λ b. b ≡ speaks_of world.now.schema.now world.now.objects.now world.now.args.now allow object.now rule (slice_get world.now.schema.now.policies rule)) }
 {
-    match at(world.schema.policies.as_slice(), rule) {
+    match at(world.schema.policies(), rule) {
         Some(policy) if reads(policy) && policy.allow == allow => {
             applies(alloc, world, object, rule)
         }

@@ -54,14 +54,14 @@ impl<'a> Index<'a> {
         requires { IsNumbered schema.now }
         ensures { IfOk result (λ x. x ≡ schema.now) }
     {
-        let types = types_by_name(alloc, schema.types.as_slice())?;
-        let globals = globals_by_name(alloc, schema.globals.as_slice())?;
+        let types = types_by_name(alloc, schema.types())?;
+        let globals = globals_by_name(alloc, schema.globals())?;
         let pointers = pointers_by_type(
             alloc,
-            schema.pointers.as_slice(),
-            schema.types.as_slice(),
+            schema.pointers(),
+            schema.types(),
         )?;
-        let computed = places_of(alloc, schema.computed.as_slice())?;
+        let computed = places_of(alloc, schema.all_computed())?;
         Ok(Index {
             schema,
             types,
@@ -129,7 +129,7 @@ impl<'a> Index<'a> {
         ensures { option_copied result ≡ computed_among self.now.computed pointer }
     {
         match self.computed.find(pointer) {
-            Some(place) => at(self.schema.computed.as_slice(), place),
+            Some(place) => at(self.schema.all_computed(), place),
             None => None,
         }
     }

@@ -47,7 +47,7 @@ fn schema(alloc: Global) -> Result<Schema, AllocError> {
 
 /// Whether the index of a schema finds each of its names, and no others.
 fn finds_all(alloc: Global, schema: &Schema) -> Result<bool, AllocError> {
-    if schema.pointers.len() != 2 || schema.types.len() != 1 {
+    if schema.pointers().len() != 2 || schema.types().len() != 1 {
         return Ok(false);
     }
     let index = Index::new(alloc, schema)?;

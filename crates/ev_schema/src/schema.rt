@@ -21,17 +21,15 @@ use std::alloc::{AllocError, Global};
 /// What a schema says. Types, pointers and rules are named by their places in these lists.
 #[derive(Drop)]
 pub struct Schema {
-    pub types: List<TypeInfo>,
-    /// The last pointer is `id`, which every type has.
-    pub pointers: List<PtrInfo>,
-    pub globals: List<GlobalInfo>,
-    /// The rules in the order of the text.
-    pub policies: List<Policy>,
-    /// The conditions of the rules, by place. A rule without one applies to every object.
-    pub conditions: List<Option<Carded>>,
-    /// The expressions of computed pointers, in the order in which they came to be known: each names only pointers whose
-    /// expressions stand before it.
-    pub computed: List<Computed>,
+    types: List<TypeInfo>,
+    // The last is `id`, which every type has.
+    pointers: List<PtrInfo>,
+    globals: List<GlobalInfo>,
+    policies: List<Policy>,
+    // By the place of the rule.
+    conditions: List<Option<Carded>>,
+    // Each names only pointers whose expressions stand before it.
+    computed: List<Computed>,
 }
 
 /// The pointer that every type has (the EdgeDB documentation's page on object types).
@@ -170,6 +168,49 @@ impl Schema {
             conditions,
             computed,
         }
+    }
+
+    /// The types, by number.
+    pub fn types(&self) -> &[TypeInfo]
+        ensures { result.now ≡ self.now.types }
+    {
+        self.types.as_slice()
+    }
+
+    /// The pointers, by number. The last is `id`, which every type has.
+    pub fn pointers(&self) -> &[PtrInfo]
+        ensures { result.now ≡ self.now.pointers }
+    {
+        self.pointers.as_slice()
+    }
+
+    /// The globals, in the order of the text.
+    pub fn globals(&self) -> &[GlobalInfo]
+        ensures { result.now ≡ self.now.globals }
+    {
+        self.globals.as_slice()
+    }
+
+    /// The rules, in the order of the text.
+    pub fn policies(&self) -> &[Policy]
+        ensures { result.now ≡ self.now.policies }
+    {
+        self.policies.as_slice()
+    }
+
+    /// The conditions of the rules, by the place of the rule. A rule without one applies to every object.
+    pub fn conditions(&self) -> &[Option<Carded>]
+        ensures { result.now ≡ self.now.conditions }
+    {
+        self.conditions.as_slice()
+    }
+
+    /// The expressions of computed pointers, in the order in which they came to be known: each names only pointers whose
+    /// expressions stand before it.
+    pub fn all_computed(&self) -> &[Computed]
+        ensures { result.now ≡ self.now.computed }
+    {
+        self.computed.as_slice()
     }
 
     /// The pointer with a number.

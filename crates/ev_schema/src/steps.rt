@@ -92,7 +92,7 @@ impl Schema {
         ensures { result ≡ spec.type_at_link self.now link name.now }
     {
         match link {
-            Some(link) => type_of_property(at(self.pointers.as_slice(), link.0 as usize), name),
+            Some(link) => type_of_property(at(self.pointers(), link.0 as usize), name),
             None => None,
         }
     }
@@ -106,7 +106,7 @@ impl Schema {
     ) -> Result<Option<Ty>, AllocError>
         ensures { IfOk result (λ t. t ≡ spec.type_from_object self.now link ty step.now) }
     {
-        let pointers = self.pointers.as_slice();
+        let pointers = self.pointers();
         match step {
             Step::Prop(pointer) => type_stored(alloc, at(pointers, pointer.0 as usize)),
             Step::Link(pointer) => type_stored(alloc, at(pointers, pointer.0 as usize)),

@@ -65,7 +65,7 @@ fn add_pointers(
 ) -> Result<(), AllocError>
     ensures { OnOk result (columns.new ≡ columns.old ++ type_columns_of schema.now listed.now) }
 {
-    let pointers = schema.pointers.as_slice();
+    let pointers = schema.pointers();
     for pointer in listed {
         if let Some(info) = at(pointers, pointer.0 as usize) {
             add_pointer(alloc, info, columns)?;
@@ -78,7 +78,7 @@ fn add_pointers(
 fn type_shape(alloc: Global, schema: &Schema, ty: TypeId) -> Result<TableShape, AllocError>
     ensures { IfOk result (λ t. t ≡ type_shape_of schema.now ty) }
 {
-    let name = type_name(alloc, schema.types.as_slice(), ty)?;
+    let name = type_name(alloc, schema.types(), ty)?;
     let listed = schema.pointers_in_order(alloc, ty)?;
     let mut columns = List::new(alloc);
     columns.push(column(Text::from_str(alloc, "id")?, ScalarTy::Uuid))?;
@@ -106,7 +106,7 @@ fn shape_of(alloc: Global, schema: &Schema, source: Source) -> Result<TableShape
 {
     match source {
         Source::Type(ty) => type_shape(alloc, schema, ty),
-        Source::Pointer(pointer) => match at(schema.pointers.as_slice(), pointer.0 as usize) {
+        Source::Pointer(pointer) => match at(schema.pointers(), pointer.0 as usize) {
             Some(info) => pointer_shape(alloc, schema, info),
             None => Ok(TableShape {
                 name: Text::from_str(alloc, "")?,
@@ -149,7 +149,7 @@ pub fn catalog_of(alloc: Global, schema: &Schema) -> Result<Catalog, AllocError>
 {
     let sources = sources(alloc, schema)?;
     let tables = shapes(alloc, schema, sources.as_slice())?;
-    let globals = named_globals(alloc, schema.globals.as_slice())?;
+    let globals = named_globals(alloc, schema.globals())?;
     let globals = keyless(alloc, in_order(alloc, &[BY_NAME], globals)?)?;
     Ok(Catalog { tables, globals })
 }

@@ -133,7 +133,7 @@ pub fn type_row(
 ) -> Result<Row, AllocError>
     ensures { IfOk result (λ r. r ≡ type_row_of schema.now listed.now object.now) }
 {
-    let pointers = schema.pointers.as_slice();
+    let pointers = schema.pointers();
     let mut cells = List::new(alloc);
     cells.push(Cell::Val(Val::Id(object.id)))?;
     for pointer in listed {

@@ -81,7 +81,7 @@ fn rows_of(
 {
     match source {
         Source::Type(ty) => type_rows(alloc, schema, objects, ty),
-        Source::Pointer(pointer) => match at(schema.pointers.as_slice(), pointer.0 as usize) {
+        Source::Pointer(pointer) => match at(schema.pointers(), pointer.0 as usize) {
             Some(info) => pointer_rows(alloc, info, pointer, objects),
             None => Ok(List::new(alloc)),
         },

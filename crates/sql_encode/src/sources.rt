@@ -52,7 +52,7 @@ pub fn type_name(alloc: Global, types: &[TypeInfo], ty: TypeId) -> Result<Text, 
 pub fn pointer_table(alloc: Global, schema: &Schema, info: &PtrInfo) -> Result<Text, AllocError>
     ensures { IfOk result (λ t. t ≡ pointer_table_of schema.now info.now) }
 {
-    let owner = type_name(alloc, schema.types.as_slice(), info.origin)?;
+    let owner = type_name(alloc, schema.types(), info.origin)?;
     let point = Text::from_str(alloc, ".")?;
     let rest = point.joined(&info.name)?;
     owner.joined(&rest)
@@ -87,7 +87,7 @@ fn pointer_sources(alloc: Global, schema: &Schema) -> Result<List<Keyed<Source>>
     requires { length schema.now.pointers < 2 ^ 32 }
     ensures { IfOk result (λ l. l ≡ pointer_sources_from schema.now zero schema.now.pointers) }
 {
-    let pointers = schema.pointers.as_slice();
+    let pointers = schema.pointers();
     let mut all = List::new(alloc);
     for (i, info) in pointers.iter().enumerate() {
         if has_table(info) {
@@ -104,7 +104,7 @@ pub fn sources(alloc: Global, schema: &Schema) -> Result<List<Source>, AllocErro
     requires pointers { length schema.now.pointers < 2 ^ 32 }
     ensures { IfOk result (λ l. l ≡ sources_of schema.now) }
 {
-    let mut all = type_sources(alloc, schema.types.as_slice())?;
+    let mut all = type_sources(alloc, schema.types())?;
     all.append(pointer_sources(alloc, schema)?)?;
     keyless(alloc, in_order(alloc, &[BY_NAME], all)?)
 }

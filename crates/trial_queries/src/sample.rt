@@ -193,10 +193,11 @@ pub fn schema(
 
 fn finished(schema: Made<Schema>, conditions: List<Option<Carded>>) -> Made<Schema> {
     let (schema, conditions) = both(schema, Ok(conditions))?;
-    Ok(Schema {
-        conditions,
-        ..schema
-    })
+    // Each rule of the sample has its condition.
+    if conditions.len() != schema.policies().len() {
+        return Ok(schema);
+    }
+    Ok(schema.with_conditions(conditions))
 }
 
 // ---- the objects

@@ -12,7 +12,7 @@ const TEXT: &[u8] =
     b"type B extending A { z: int64 { default := 1; default := 2; }; multi b: A { s: str; }; } type A { a: int64; }";
 
 fn type_named(schema: &Schema, name: &str) -> Option<TypeId> {
-    if schema.types.len() > 10000 {
+    if schema.types().len() > 10000 {
         return None;
     }
     schema.type_named(name)
@@ -20,7 +20,7 @@ fn type_named(schema: &Schema, name: &str) -> Option<TypeId> {
 
 /// The default of the first pointer.
 fn first_default(schema: &Schema) -> Option<i64> {
-    match schema.pointers.as_slice() {
+    match schema.pointers() {
         [first, ..] => match &first.default {
             Some(Val::Int(number)) => Some(*number),
             _ => None,
@@ -31,7 +31,7 @@ fn first_default(schema: &Schema) -> Option<i64> {
 
 /// The bounds of the first pointer.
 fn first_bounds(schema: &Schema) -> Option<Card> {
-    match schema.pointers.as_slice() {
+    match schema.pointers() {
         [first, ..] => Some(first.card),
         [] => None,
     }

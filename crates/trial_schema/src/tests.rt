@@ -22,9 +22,9 @@ enum Outcome {
 fn built_told(built: Result<Schema, SchemaRefusal>) -> Outcome {
     match built {
         Ok(schema) => Outcome::Schema(
-            schema.types.len(),
-            schema.pointers.len(),
-            schema.globals.len(),
+            schema.types().len(),
+            schema.pointers().len(),
+            schema.globals().len(),
         ),
         Err(SchemaRefusal::Build(Broken { rule, byte })) => Outcome::Broken(rule, byte),
         Err(SchemaRefusal::Unbuilt) => Outcome::Unbuilt,
@@ -340,7 +340,7 @@ fn rows_told(alloc: Global) -> usize {
 /// The bounds of the pointers of a schema, in their order.
 fn bounds_are(schema: &Schema, bounds: &[Card]) -> bool {
     let mut left = bounds;
-    for info in schema.pointers.as_slice() {
+    for info in schema.pointers() {
         match left.split_first() {
             Some((card, rest)) if *card == info.card => left = rest,
             _ => return false,
@@ -350,7 +350,7 @@ fn bounds_are(schema: &Schema, bounds: &[Card]) -> bool {
 }
 
 fn lines_are_whole(schema: &Schema) -> bool {
-    match schema.types.as_slice() {
+    match schema.types() {
         [d, a, b, c] => {
             d.ancestors.len() == 3
                 && d.pointers.len() == 3
@@ -384,7 +384,7 @@ fn the_first_broken_rule_is_told(rt: HostRuntime) -> Result<(), Fail> {
 #[test]
 fn schemas_hold_what_is_declared(rt: HostRuntime) -> Result<(), Fail> {
     let alloc = rt.alloc();
-    assert!(rt; empty(alloc)?.types.is_empty());
+    assert!(rt; empty(alloc)?.types().is_empty());
     let lines =
         b"type D extending B, C { d: str; } type A { a: str; } type B extending A; type C { c: str; }";
     let lined = schema_in(alloc, lines).ok_or("the lines have no schema")?;

@@ -68,7 +68,7 @@ fn as_link(schema: &Schema, pointer: Option<PtrId>) -> Option<(PtrId, TypeId)>
     ensures { result ≡ rule.as_link schema.now pointer }
 {
     let pointer = pointer?;
-    let target = target_at(at(schema.pointers.as_slice(), pointer.0 as usize))?;
+    let target = target_at(at(schema.pointers(), pointer.0 as usize))?;
     Some((pointer, target))
 }
 
@@ -136,7 +136,7 @@ fn dot(index: &Index, from: &Ty, name: &Text, place: u32) -> Result<Step, TypeRe
     let Some(pointer) = index.pointer(*ty, name) else {
         return Err(TypeRefusal::Rule(TypeRule::N2, place));
     };
-    let info = at(index.schema().pointers.as_slice(), pointer.0 as usize);
+    let info = at(index.schema().pointers(), pointer.0 as usize);
     match step_of(pointer, info, index.computed(pointer)) {
         Some(step) => Ok(step),
         None => Err(TypeRefusal::Needs(pointer)),
