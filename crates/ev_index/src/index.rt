@@ -56,11 +56,7 @@ impl<'a> Index<'a> {
     {
         let types = types_by_name(alloc, schema.types())?;
         let globals = globals_by_name(alloc, schema.globals())?;
-        let pointers = pointers_by_type(
-            alloc,
-            schema.pointers(),
-            schema.types(),
-        )?;
+        let pointers = pointers_by_type(alloc, schema.pointers(), schema.types())?;
         let computed = places_of(alloc, schema.all_computed())?;
         Ok(Index {
             schema,

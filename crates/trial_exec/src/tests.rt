@@ -77,7 +77,10 @@ fn schema_in(alloc: Global, text: &str) -> Option<Schema> {
 
 /// The tables of the objects that a text writes.
 fn tables_in(alloc: Global, schema: &Schema, text: &str) -> Option<Tables> {
-    if schema.types().len() > 10000 || schema.pointers().is_empty() || schema.pointers().len() > 10000 {
+    if schema.types().len() > 10000
+        || schema.pointers().is_empty()
+        || schema.pointers().len() > 10000
+    {
         return None;
     }
     match load(alloc, schema, text.as_bytes()) {

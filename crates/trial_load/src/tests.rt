@@ -371,7 +371,10 @@ fn schema_in(alloc: Global, text: &str) -> Option<Schema> {
 
 /// What comes of a text. None where memory ran out.
 fn outcome(alloc: Global, schema: &Schema, text: &[u8]) -> Option<Outcome> {
-    if schema.types().len() > 10000 || schema.pointers().is_empty() || schema.pointers().len() > 10000 {
+    if schema.types().len() > 10000
+        || schema.pointers().is_empty()
+        || schema.pointers().len() > 10000
+    {
         return None;
     }
     match load(alloc, schema, text) {
@@ -434,7 +437,10 @@ static TURNED: &str =
 
 /// The store of those three. None where there is none, or memory ran out.
 fn turned(alloc: Global, schema: &Schema) -> Option<Store> {
-    if schema.types().len() > 10000 || schema.pointers().is_empty() || schema.pointers().len() > 10000 {
+    if schema.types().len() > 10000
+        || schema.pointers().is_empty()
+        || schema.pointers().len() > 10000
+    {
         return None;
     }
     load(alloc, schema, TURNED.as_bytes()).ok()

@@ -9,7 +9,7 @@ store_of-requires-clause-written c =
     let s = c.args.schema.now in
     let orders = c.args.orders.now in
     let os = c.args.objects in
-    let infos = c.as_slice-infos.result.now in
+    let infos = c.pointers-infos.result.now in
     let none = none_ruled (exclusive infos orders c.as_slice.result.now) c.in-Ok.ensures in
-    let once = ap (λ l. exclusive l orders os) (sym c.as_slice-infos.ensures) ∙ ap (exclusive infos orders) (sym c.as_slice.ensures) ∙ none in
+    let once = ap (λ l. exclusive l orders os) (sym c.pointers-infos.ensures) ∙ ap (exclusive infos orders) (sym c.as_slice.ensures) ∙ none in
     (c.requires.written.0, c.requires.written.1 ∙ ap (λ o. unless o (store_of s.types os)) once)

@@ -4,7 +4,7 @@ use Rattle.db_check.proofs.store.store_of.Goals as goal
 
 pub extents-requires : goal.extents-requires
 extents-requires c =
-    let slice = ap length c.as_slice-2.ensures in
+    let slice = ap length c.as_slice.ensures in
     let all = ap length c.in_ok-objects.ensures in
     let few = c.requires.objects in
     omega (arith, slice, all, few, length_ordered c.args.objects)
