@@ -48,7 +48,7 @@ use Rattle.eql_agree.proofs.Lists.{each_all_of, each_weaker, each_collect}
 use Rattle.eql_agree.proofs.Agreement.{agreeing_is_kept}
 use Rattle.store_agree.specs.Typed.{is_scalar, is_array, is_of_ty, widens, widens_from, leads, property_leads, of_link, takes, computed_leads, step_leads, given_fits, types, ExtendsOn, IsTyped, ComputedTyped, ValuesHaveTheirTypes}
 use Rattle.store_agree.proofs.TypedLaws.{plain_in, scalar_in, array_in, widen_in, types_are_sound}
-use Rattle.store_agree.proofs.Truths.{first_true, second_true}
+use Rattle.store_agree.proofs.Truths.{first_true, second_true, either_true}
 use Rattle.store_agree.proofs.Stored.{object_fits, Stored, entry_fits}
 
 -- ---- a store whose ids stand in order
@@ -238,12 +238,12 @@ module _ (s : Schema) (os : List Object) (args : Args) (extends : ExtendsOn s) (
 
   -- ---- steps
 
-  narrowed_is : (a : TypeId) (u t : Ty) (xs : List (Item Val)) → IsTrue (widens s (ty.Object a) t) → EachValue (λ v. IsTrue (is_of_ty s os u v)) xs → EachValue (λ v. IsTrue (is_of_ty s os t v)) (narrowed s os a xs)
-  narrowed_is a u t xs h r = each_bind (λ v. IsTrue (is_of_ty s os u v)) (λ v. IsTrue (is_of_ty s os t v)) xs (λ v. cond (is_of_type s os a v) (one v) []) r (λ v q. at v (is_of_type s os a v) refl)
+  narrowed_is : (a : TypeId) (u t : Ty) (xs : List (Item Val)) → IsTrue (widens s u t || widens s (ty.Object a) t) → EachValue (λ v. IsTrue (is_of_ty s os u v)) xs → EachValue (λ v. IsTrue (is_of_ty s os t v)) (narrowed s os a xs)
+  narrowed_is a u t xs h r = each_bind (λ v. IsTrue (is_of_ty s os u v)) (λ v. IsTrue (is_of_ty s os t v)) xs (λ v. cond (is_of_type s os a v) (one v) []) r (λ v q. at v q (is_of_type s os a v) refl)
     where
-      at : (v : Val) (b : Bool) → is_of_type s os a v ≡ b → EachValue (λ v. IsTrue (is_of_ty s os t v)) (cond b (one v) [])
-      at v true e = (widen_in s os args extends (ty.Object a) t v h (as_ty a v e), tt)
-      at v false e = tt
+      at : (v : Val) → IsTrue (is_of_ty s os u v) → (b : Bool) → is_of_type s os a v ≡ b → EachValue (λ v. IsTrue (is_of_ty s os t v)) (cond b (one v) [])
+      at v q true e = (either_true (widens s u t) (widens s (ty.Object a) t) h (λ w. widen_in s os args extends u t v w q) (λ w. widen_in s os args extends (ty.Object a) t v w (as_ty a v e)), tt)
+      at v q false e = tt
 
   -- what computed pointers give has its type, for those that are asked for as the schema has them
   abbrev ComputesTyped : Computes → Type 0

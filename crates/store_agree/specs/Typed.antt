@@ -1,5 +1,5 @@
 -- Types as kinds: which values have a type, and the rules by which the forms of a query have one.
-use Rattle.std.specs.Prelude.{IsTrue, ◌≡◌, ℕ, zero, suc, ◌==◌, ◌&&◌, Bool, true, false, List, [], ◌∷◌, Option, Some, None, slice_get, if◌then◌else◌}
+use Rattle.std.specs.Prelude.{IsTrue, ◌≡◌, ℕ, zero, suc, ◌==◌, ◌&&◌, ◌||◌, Bool, true, false, List, [], ◌∷◌, Option, Some, None, slice_get, if◌then◌else◌}
 use Rattle.std.specs.Str.{bytes_eq}
 use Rattle.ev_value.specs.Item.{EachValue}
 use Rattle.ev_value.specs.declared.args.Args.{Args}
@@ -170,7 +170,7 @@ module _ (s : Schema) where
   step_leads (step.Link p) u t = leads p t
   step_leads (step.Comp p) u t = computed_leads s.computed p u t
   step_leads (step.Back p a) u t = widens (ty.Object a) t
-  step_leads (step.Is a) u t = widens (ty.Object a) t
+  step_leads (step.Is a) u t = widens u t || widens (ty.Object a) t
   step_leads _ u t = true
 
   abbrev pub function_gives : SetFunction → Ty → Ty → Bool
