@@ -42,6 +42,7 @@ abbrev pub kinds_within : {K : Type 0} → List K → List K → List K
 kinds_within [] ts = ts
 kinds_within (u ∷ us) ts = kinds_within us (u ∷ ts)
 
+-- one of two statements, by a truth
 abbrev pub Chosen : Bool → Type 0 → Type 0 → Type 0
 Chosen true A B = A
 Chosen false A B = B
@@ -75,6 +76,7 @@ module _ {K : Type 0} (k : Rules K) where
   IsFrom bases p ns ts None t = (u : K) × IsOfRoot bases p.root ns ts u × Leads p.steps u t
   IsFrom bases p ns ts (Some (u, more)) t = Leads more u t
 
+  -- the kind of a path that ends in the property of a link, if it does, and of any other
   abbrev pub IsByEnd : BaseKinds K → Path → List Name → List K → Option (PtrId × List ℕ) → K → Type 0
   IsByEnd bases p ns ts None t = IsFrom bases p ns ts (nearest (length p.steps) ns ts p) t
   IsByEnd bases p ns ts (Some (l, n)) t =
@@ -178,6 +180,7 @@ module _ {K : Type 0} (k : Rules K) where
     base_kinds (e.Unfit' _ _ _ _ parts) = kinds_of_bases parts
     base_kinds _ = []
 
+    -- the base expressions of several expressions
     pub kinds_of_bases : {m : _} → Row_of-Expr m → BaseKinds K
     kinds_of_bases end_of-Expr = []
     kinds_of_bases (more_of-Expr x rest) = base_kinds x ++ kinds_of_bases rest
@@ -193,15 +196,18 @@ module _ {K : Type 0} (k : Rules K) where
     HasClause None' ns ts = Unit {0}
     HasClause (Some' _ one_scope) ns ts = HasSome one_scope ns ts
 
+    -- each of several scopes has some kind
     pub HasSome : {m : _} → Row_of-Scope m → Says K
     HasSome end_of-Scope ns ts = Unit {0}
     HasSome (more_of-Scope _ _ _ (more_of-Expr x end_of-Expr) rest) ns ts =
         ((u : K) × InScope x (base_kinds x) (Has x) ns ts u) × HasSome rest ns ts
 
+    -- each key has some kind
     pub HasKeys : {m : _} → Row_of-Key m → Says K
     HasKeys end_of-Key ns ts = Unit {0}
     HasKeys (more_of-Key k rest) ns ts = HasKey k ns ts × HasKeys rest ns ts
 
+    -- a key has some kind
     pub HasKey : key.Key → Says K
     HasKey (key.Ascending' _ _ _ _ (more_of-Expr x end_of-Expr)) ns ts = (u : K) × InScope x (base_kinds x) (Has x) ns ts u
     HasKey (key.Descending' _ _ _ _ (more_of-Expr x end_of-Expr)) ns ts = (u : K) × InScope x (base_kinds x) (Has x) ns ts u

@@ -21,6 +21,7 @@ pub record Rules (K : Type 0) : Type 0 where
   pub part : K → ℕ → K
   -- whether what is of the first kind may stand for the second
   pub widens : K → K → Bool
+  -- of a literal, a parameter, a global, and the objects of a type
   pub literal : Val → K → Bool
   pub param : Param → K → Bool
   pub global : List ℕ → K → Bool
@@ -29,10 +30,13 @@ pub record Rules (K : Type 0) : Type 0 where
   pub step : Step → K → K → Bool
   -- of a link's property, between a source and a target
   pub property : PtrId → List ℕ → K → K → K → Bool
+  -- of the kinds of the operands, and of the kind of what is made of them
   pub operation : Op → List K → K → Bool
   pub cast : ScalarTy → K → K → Bool
   pub function : SetFunction → K → K → Bool
+  -- of the kind of what is true or false
   pub truth : K → Bool
+  -- of the kinds of a tuple's components, and of the kind of the tuple
   pub tuple : List K → K → Bool
   -- of the kinds of an array's elements, and of the kind of the array
   pub array : List K → K → Bool

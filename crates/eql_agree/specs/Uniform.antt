@@ -57,6 +57,7 @@ abbrev pub uniform : (Val → Bool) → Asked → Kinds (Unit {0})
 uniform p asked = record { rules = asking p asked; holds = λ u v. p v }
 
 module _ (asked : Asked) where
+  -- a path's root may be asked for
   abbrev pub IsAskedRoot : Root → Type 0
   IsAskedRoot (root.Extent x) = IsTrue (asked.extent x)
   IsAskedRoot _ = Unit {0}
@@ -100,30 +101,37 @@ module _ (p : Val → Bool) where
     Literals (e.EmptySet _ _) = Unit {0}
     Literals (e.Unfit' _ _ _ _ parts) = LiteralsOf parts
 
+    -- the same of several expressions
     pub LiteralsOf : {m : _} → Row_of-Expr m → Type 0
     LiteralsOf end_of-Expr = Unit {0}
     LiteralsOf (more_of-Expr x rest) = Literals x × LiteralsOf rest
 
+    -- the same of several scopes
     pub LiteralsOfScopes : {m : _} → Row_of-Scope m → Type 0
     LiteralsOfScopes end_of-Scope = Unit {0}
     LiteralsOfScopes (more_of-Scope _ _ _ body rest) = LiteralsOf body × LiteralsOfScopes rest
 
+    -- the same of the values of aliases
     pub LiteralsOfAliases : {m : _} → Row_of-Alias m → Type 0
     LiteralsOfAliases end_of-Alias = Unit {0}
     LiteralsOfAliases (more_of-Alias _ _ _ _ value rest) = LiteralsOf value × LiteralsOfAliases rest
 
+    -- the same of the elements of a shape
     pub LiteralsOfElements : {m : _} → Row_of-Element m → Type 0
     LiteralsOfElements end_of-Element = Unit {0}
     LiteralsOfElements (more_of-Element _ _ _ _ _ _ _ _ _ value rest) = LiteralsOf value × LiteralsOfElements rest
 
+    -- the same of a clause that may be absent
     pub LiteralsOfClause : Held-Select-filter → Type 0
     LiteralsOfClause None' = Unit {0}
     LiteralsOfClause (Some' _ scope) = LiteralsOfScopes scope
 
+    -- the same of keys
     pub LiteralsOfKeys : {m : _} → Row_of-Key m → Type 0
     LiteralsOfKeys end_of-Key = Unit {0}
     LiteralsOfKeys (more_of-Key k rest) = LiteralsOfKey k × LiteralsOfKeys rest
 
+    -- the same of a key
     pub LiteralsOfKey : key.Key → Type 0
     LiteralsOfKey (key.Ascending' _ _ _ _ value) = LiteralsOf value
     LiteralsOfKey (key.Descending' _ _ _ _ value) = LiteralsOf value

@@ -244,10 +244,13 @@ module _ (s : Schema) (os : List Object) (args : Args) (extends : ExtendsOn s) w
   unfolding is_of_ty
   components_are end_of-Ty end_of-Val t i e h = tt
   components_are (more_of-Ty u ts) (more_of-Val v vs) t i e h = (
-    subst (λ (u : Ty). IsTrue (is_of_ty s os u v)) (sym (e 0)) (first_true (is_of_ty s os u v) (are_of_ty s os ts vs) h),
+    subst (λ (u : Ty). IsTrue (is_of_ty s os u v)) (sym (e 0) ∙ ap (part_of t) (none_before i)) (first_true (is_of_ty s os u v) (are_of_ty s os ts vs) h),
     components_are ts vs t (suc i) (λ j. ap (part_of t) (behind j i) ∙ e (suc j)) (second_true (is_of_ty s os u v) (are_of_ty s os ts vs) h),
   )
     where
+      none_before : (i : ℕ) → 0 + i ≡ i
+      none_before i = omega arith
+
       behind : (j i : ℕ) → j + suc i ≡ suc j + i
       behind j i = omega arith
   components_are end_of-Ty (more_of-Val v vs) t i e h = let clash : false ≡ true = h in absurd cc

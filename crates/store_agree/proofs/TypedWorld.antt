@@ -124,7 +124,7 @@ module _ (s : Schema) (os : List Object) (args : Args) (extends : ExtendsOn s) (
   stored_is body.Computed u e = let clash : None ≡ Some u = e in absurd cc
 
   leads_on : (p : PtrId) (info : PtrInfo) (u t : Ty) → slice_get s.pointers p.0 ≡ Some info → stored_type info.body ≡ Some u → IsTrue (leads s p t) → IsTrue (widens s u t)
-  leads_on p info u t e r h = subst (λ (o : Option Ty). IsTrue (widens_from s o t)) (stored_is info.body u r) (subst (λ (o : Option PtrInfo). IsTrue (widens_from s (type_stored s o) t)) e h)
+  leads_on p info u t e r h = subst (λ (o : Option Ty). IsTrue (widens_from s o t)) (stored_is info.body u r) (subst (λ (o : Option PtrInfo). IsTrue (widens_from s (type_stored o) t)) e h)
 
   values_are : (info : PtrInfo) (a : ScalarTy) (t : Ty) (vs : List Val) → IsTrue (is_scalar a t) → FitsValue s os info (ty.Scalar a) (value.Vals vs) → Each (λ v. IsTrue (is_of_ty s os t v)) vs
   values_are info a t [] h r = tt

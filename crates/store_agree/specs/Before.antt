@@ -14,6 +14,7 @@ use Rattle.eql_sem.specs.Parts.{values_in, items_in}
 use Rattle.eql_world.specs.StoreWorld.{Computes, world_where}
 use Rattle.eql_agree.specs.Uniform.{Asked, AsksAlone}
 
+-- a step is none to a computed pointer that is not known
 abbrev pub is_known : (PtrId → Bool) → Step → Bool
 is_known known (step.Comp p) = known p
 is_known known _ = true

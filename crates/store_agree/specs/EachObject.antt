@@ -12,6 +12,7 @@ module _ (p : ℕ → Bool) where
     each_object (val.Array' _ elements) = each_object_of elements
     each_object _ = true
 
+    -- the same of several values
     pub each_object_of : {m : _} → Row_of-Val m → Bool
     each_object_of end_of-Val = true
     each_object_of (more_of-Val v rest) = each_object v && each_object_of rest

@@ -43,6 +43,7 @@ module _ (sees : ℕ → Bool) where
     guarded_step computes (step.Is t) xs = narrowed s os t xs
     guarded_step computes _ xs = []
 
+    -- the guarded world, where computed pointers give that
     abbrev pub guarded_where : Computes → World
     guarded_where computes = record {
       extent = λ t. filter (shows sees) (extent s os t);
@@ -52,11 +53,12 @@ module _ (sees : ℕ → Bool) where
       global = argument_named args.globals;
     }
 
-    -- computed pointers are worked out in the guarded world
+    -- what computed pointers give once one more expression is known, which is evaluated in the guarded world
     abbrev pub guarded_knowing : Computes → Computed → Computes
     guarded_knowing before c p v =
         if c.pointer.0 == p.0 then of_object (object_of os v) (λ o. values_for (guarded_where before) c.expr v) else before p v
 
+    -- what they give where these expressions are known, each after those before it
     abbrev pub guarded_computing : List Computed → Computes
     guarded_computing cs = fold guarded_knowing (λ p v. []) cs
 

@@ -74,6 +74,7 @@ part_at end_of-Ty i = ty.Scalar scalar.Bool
 part_at (more_of-Ty t rest) zero = t
 part_at (more_of-Ty t rest) (suc i) = part_at rest i
 
+-- the type of the component with a number, of a tuple of the type
 abbrev pub part_of : Ty → ℕ → Ty
 part_of (ty.Tuple' _ ts) i = part_at ts i
 part_of _ i = ty.Scalar scalar.Bool
@@ -110,6 +111,7 @@ module _ (s : Schema) (os : List Object) where
     is_of_ty (ty.Array t) v = is_array_of t v
     is_of_ty _ _ = false
 
+    -- values are of these types, one by one
     pub are_of_ty : {m n : _} → Row_of-Ty m → Row_of-Val n → Bool
     are_of_ty end_of-Ty end_of-Val = true
     are_of_ty (more_of-Ty t ts) (more_of-Val v vs) = is_of_ty t v && are_of_ty ts vs
@@ -125,32 +127,38 @@ module _ (s : Schema) where
     widens (ty.Array a) t = is_array a t
     widens _ _ = false
 
+    -- types are others, or their objects are, one by one
     pub all_widen : {m n : _} → Row_of-Ty m → Row_of-Ty n → Bool
     all_widen end_of-Ty end_of-Ty = true
     all_widen (more_of-Ty u us) (more_of-Ty t ts) = widens u t && all_widen us ts
     all_widen _ _ = false
 
+  -- the same, where the first ones are the types of operands
   abbrev pub parts_widen : {m : _} → List Ty → Row_of-Ty m → Bool
   parts_widen [] end_of-Ty = true
   parts_widen (u ∷ us) (more_of-Ty t ts) = widens u t && parts_widen us ts
   parts_widen _ _ = false
 
+  -- the type of the tuple of values of these types
   abbrev pub makes_tuple : List Ty → Ty → Bool
   makes_tuple us (ty.Tuple' _ ts) = parts_widen us ts
   makes_tuple us _ = false
 
-  -- what is stored of a pointer is of the type
+  -- a type that may be there is another one, or its objects are
   abbrev pub widens_from : Option Ty → Ty → Bool
   widens_from None t = false
   widens_from (Some u) t = widens u t
 
+  -- what is stored of the pointer with a number is of the type
   abbrev pub leads : PtrId → Ty → Bool
   leads p t = widens_from (type_stored (slice_get s.pointers p.0)) t
 
+  -- each property with the name is of the scalar type
   abbrev pub property_leads : List LinkProperty → List ℕ → Ty → Bool
   property_leads [] n t = true
   property_leads (q ∷ more) n t = (if bytes_eq q.name n then is_scalar q.ty t else true) && property_leads more n t
 
+  -- the properties with the name, of a pointer that may be there, are of the scalar type
   abbrev pub of_link : Option PtrInfo → List ℕ → Ty → Bool
   of_link None n t = true
   of_link (Some info) n t = property_leads info.link_props n t
@@ -165,6 +173,7 @@ module _ (s : Schema) where
   computed_leads [] p u t = true
   computed_leads (c ∷ more) p u t = (if c.pointer.0 == p.0 then takes c.expr.typed.core.subject u && widens c.ty t else true) && computed_leads more p u t
 
+  -- a step from values of the one type leads to values of the other
   abbrev pub step_leads : Step → Ty → Ty → Bool
   step_leads (step.Prop p) u t = if is_id s.pointers p then is_scalar scalar.Uuid t else leads p t
   step_leads (step.Link p) u t = leads p t
@@ -173,6 +182,7 @@ module _ (s : Schema) where
   step_leads (step.Is a) u t = widens u t || widens (ty.Object a) t
   step_leads _ u t = true
 
+  -- a function of a set of values of the one type gives values of the other
   abbrev pub function_gives : SetFunction → Ty → Ty → Bool
   function_gives function.Count u t = is_scalar scalar.Int64 t
   function_gives function.Sum u t = is_scalar scalar.Int64 t
@@ -182,6 +192,7 @@ module _ (s : Schema) where
   function_gives function.ArrayAgg u t = gives_element t u
   function_gives _ u t = widens u t
 
+-- an argument that may be there is of the type
 abbrev pub given_fits : Option Val → Ty → Bool
 given_fits None t = true
 given_fits (Some v) t = plain_type t v
@@ -219,6 +230,7 @@ abbrev pub IsTyped : Schema → Args → Computed → Type 0
 IsTyped s args c =
     (a : TypeId) → c.expr.typed.core.subject ≡ Some a → HasAsScope (typing s args) c.expr.typed.core.root.body (name.Prefix (subject 0) ∷ []) (ty.Object a ∷ []) c.ty
 
+-- Each of some expressions of computed pointers has its pointer's type.
 abbrev pub ComputedTyped : Schema → Args → List Computed → Type 0
 ComputedTyped s args cs = Each (IsTyped s args) cs
 
