@@ -1,7 +1,7 @@
 -- Worlds that agree on the values of kinds give the same items.
 use Rattle.std.proofs.Common.{◌≡◌, ℕ, suc, Bool, true, false, cond, Option, List, [], ◌∷◌, ◌++◌, map, refl, ap}
 use Rattle.std.specs.List.{list_any}
-use Rattle.ev_value.specs.Item.{bind, one, all_of, collect, both, values}
+use Rattle.ev_value.specs.Item.{bind, one, all_of, collect, values}
 use Rattle.ev_value.specs.declared.item.Item.{Item}
 use Rattle.ev_value.specs.declared.value.Val.{Val}
 use Rattle.ev_list.specs.Aggregate.{is_true}

@@ -60,7 +60,6 @@ module _ (p : Val → Bool) (true_of : (v : Val) → IsTrue (p v)) where
     any_literals (e.Shaped' _ _ x _ _ _ elements) = (any_rows x, any_elements elements)
     any_literals (e.Select' _ _ aliases (Select' _ x _ _ filter _ keys offset limit)) = (any_aliases aliases, any_rows x, any_clause filter, any_keys keys, any_clause offset, any_clause limit)
     any_literals (e.For' _ _ aliases _ _ _ _ x _ _ _ y) = (any_aliases aliases, any_rows x, any_rows y)
-
     any_literals (e.Array' _ _ _ xs) = any_rows xs
     any_literals (e.ArrayCast' _ _ _ x) = any_rows x
     any_literals (e.Unpack' _ _ x) = any_rows x

@@ -293,7 +293,6 @@ module _ (p : Val → Bool) (asked : Asked) where
         behind_kind aliases _ (aliases_kind aliases here l.0)
         (λ ms us. (tt, in_scope x q (bases_kind x q l.1.0) (has_kind x q l.1.0) ms us tt, in_scope y r (bases_kind y r l.2.0) (has_kind y r l.2.0) (name.Prefix (variable n) ∷ ms) (tt ∷ us) t))
         ns ts
-
     has_kind (e.Array' _ _ _ xs) os l ns ts t = (part_kinds (asking p asked) xs tt 0, each_kind xs os l ns ts tt 0, refl)
     has_kind (e.ArrayCast' _ _ _ (more_of-Expr x end_of-Expr)) os l ns ts t = has_kind x (left_of Occurs (all x) [] os) l.0 ns ts t
     has_kind (e.Unpack' _ _ (more_of-Expr x end_of-Expr)) os l ns ts t = (tt, has_kind x (left_of Occurs (all x) [] os) l.0 ns ts tt, refl)

@@ -142,7 +142,6 @@ module _ {K : Type 0} (k : Rules K) where
     Has (e.For' _ _ aliases n _ _ _ (more_of-Expr x end_of-Expr) _ _ _ (more_of-Expr y end_of-Expr)) ns ts t =
         BehindAliases aliases (λ ms us.
         (v : K) × InScope x (base_kinds x) (Has x) ms us v × InScope y (base_kinds y) (Has y) (name.Prefix (variable n) ∷ ms) (v ∷ us) t) ns ts
-
     Has (e.Array' _ _ _ elements) ns ts t = (us : List K) × HasEach elements ns ts us × IsTrue (k.array us t)
     Has (e.ArrayCast' _ _ _ (more_of-Expr x end_of-Expr)) ns ts t = Has x ns ts t
     Has (e.Unpack' _ _ (more_of-Expr x end_of-Expr)) ns ts t = (u : K) × Has x ns ts u × IsTrue (k.element u t)

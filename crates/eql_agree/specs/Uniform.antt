@@ -94,7 +94,6 @@ module _ (p : Val → Bool) where
     Literals (e.Select' _ _ aliases (Select' _ x _ _ filter _ keys offset limit)) =
         LiteralsOfAliases aliases × LiteralsOf x × LiteralsOfClause filter × LiteralsOfKeys keys × LiteralsOfClause offset × LiteralsOfClause limit
     Literals (e.For' _ _ aliases _ _ _ _ x _ _ _ y) = LiteralsOfAliases aliases × LiteralsOf x × LiteralsOf y
-
     Literals (e.Array' _ _ _ elements) = LiteralsOf elements
     Literals (e.ArrayCast' _ _ _ operand) = LiteralsOf operand
     Literals (e.Unpack' _ _ operand) = LiteralsOf operand

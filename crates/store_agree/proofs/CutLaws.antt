@@ -1,5 +1,5 @@
 -- What a store gives once links are cut.
-use Rattle.std.proofs.Common.{◌≡◌, ℕ, ◌==◌, Bool, true, false, cond, Option, Some, None, List, [], ◌∷◌, map, filter, refl, sym, ap, ◌∙◌, subst, slice_get}
+use Rattle.std.proofs.Common.{◌≡◌, ℕ, ◌==◌, Bool, true, false, cond, Option, Some, None, List, [], ◌∷◌, refl, sym, ap, ◌∙◌, subst, slice_get}
 use Rattle.std.proofs.lemmas.Bool.{eqb-true}
 use Rattle.std.proofs.lemmas.Cmp.{tied_itself}
 use Rattle.std.specs.Cmp.Lexicographic.{slice_cmp, nat_list_cmp_total}
@@ -12,7 +12,7 @@ use Rattle.db_store.specs.declared.object.Object.{Object}
 use Rattle.db_store.specs.declared.object.PtrValue.{PtrValue}
 use Rattle.db_store.specs.declared.object.PtrValue.TheVariants as value
 use Rattle.db_store.specs.Fits.{Each, Ascend, text_before, name_of, entry_before}
-use Rattle.db_store.specs.Objects.{find, entry, values_if_stored, targets_if_stored, values_at, targets_at}
+use Rattle.db_store.specs.Objects.{entry, values_if_stored, targets_if_stored, values_at, targets_at}
 use Rattle.eql_world.specs.View.{cut_targets, cut_value, cut_entry, is_filled, cut}
 use Rattle.eql_world.proofs.Cuts.{cut_if, kept_entries}
 

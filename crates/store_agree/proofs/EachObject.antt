@@ -1,5 +1,5 @@
 -- No operator leads out of the values whose objects pass a test.
-use Rattle.std.proofs.Common.{IsTrue, ℕ, ◌&&◌, Bool, List, [], ◌∷◌, refl}
+use Rattle.std.proofs.Common.{IsTrue, ℕ, Bool, List, [], ◌∷◌, refl}
 use Rattle.ev_value.specs.declared.value.Val.{Val, Row_of-Val, end_of-Val, more_of-Val}
 use Rattle.ev_value.specs.declared.value.Val as val
 use Rattle.ev_value.specs.declared.value.Val.TheBlock as vals

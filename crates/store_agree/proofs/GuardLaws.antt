@@ -11,8 +11,6 @@ use Rattle.ev_value.specs.declared.item.Item.TheVariants as it
 use Rattle.ev_value.specs.declared.value.Val.{Val}
 use Rattle.ev_value.specs.declared.value.Val as val
 use Rattle.ev_value.specs.declared.value.Val.TheVariants as made
-use Rattle.ev_value.specs.declared.value.Val.TheBlock as vals
-use denote.Hole.Carrier as carrier
 use Rattle.ev_value.proofs.Items.{each_bind, bind_only_faults}
 use Rattle.core_ir.specs.declared.path.PtrId.{PtrId}
 use Rattle.core_ir.specs.declared.path.Step.{Step}

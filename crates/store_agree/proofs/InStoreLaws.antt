@@ -1,50 +1,30 @@
 -- The objects of what a query gives are in the store.
-use Rattle.std.proofs.Common.{◌≡◌, IsTrue, ℕ, ◌==◌, ◌&&◌, Bool, true, false, cond, Option, Some, None, is_some, List, [], ◌∷◌, map, filter, fold, refl, ap}
+use Rattle.std.proofs.Common.{◌≡◌, IsTrue, ◌==◌, ◌&&◌, Bool, true, false, cond, Option, Some, None, is_some, List, [], ◌∷◌, map, filter, fold, refl, ap}
 use Rattle.std.proofs.lemmas.Bool.{eq-eqb}
 use Rattle.std.specs.List.{list_any}
-use Rattle.std.specs.Str.{bytes_eq}
 use Rattle.ev_value.specs.Item.{one, all_of, values, EachValue}
 use Rattle.ev_value.specs.declared.args.Args.{Args}
 use Rattle.ev_value.specs.declared.args.Argument.{Argument}
 use Rattle.ev_value.specs.declared.item.Item.{Item}
-use Rattle.ev_value.specs.declared.value.ScalarTy.{ScalarTy}
-use Rattle.ev_value.specs.declared.value.ScalarTy.TheVariants as scalar
 use Rattle.ev_value.specs.declared.value.Val.{Val}
-use Rattle.ev_value.specs.declared.value.Val as val
-use Rattle.ev_value.specs.declared.value.Val.TheVariants as made
-use Rattle.ev_value.specs.declared.value.Val.TheBlock as vals
 use Rattle.ev_value.proofs.Items.{each_bind}
-use denote.Hole.Carrier as carrier
 use Rattle.core_ir.specs.declared.path.PtrId.{PtrId}
 use Rattle.core_ir.specs.declared.path.Step.{Step}
 use Rattle.core_ir.specs.declared.path.Step.TheVariants as step
 use Rattle.core_ir.specs.declared.path.TypeId.{TypeId}
 use Rattle.core_ir.specs.declared.phase.Carded.{Carded}
-use Rattle.core_ir.specs.declared.ty.Ty.{Ty}
-use Rattle.core_ir.specs.declared.ty.Ty as ty
 use Rattle.ev_schema.specs.declared.pointer.Computed.{Computed}
-use Rattle.ev_schema.specs.declared.pointer.LinkProperty.{LinkProperty}
-use Rattle.ev_schema.specs.declared.pointer.PtrInfo.{PtrInfo}
 use Rattle.ev_schema.specs.declared.schema.Schema.{Schema}
-use Rattle.ev_schema.specs.Pointers.{is_id}
 use Rattle.ev_schema.specs.Types.{is_subtype}
-use Rattle.db_store.specs.declared.object.Entry.{Entry}
-use Rattle.db_store.specs.declared.object.LinkValue.{LinkValue}
 use Rattle.db_store.specs.declared.object.Object.{Object}
-use Rattle.db_store.specs.declared.object.PtrValue.{PtrValue}
-use Rattle.db_store.specs.declared.object.PtrValue.TheVariants as value
-use Rattle.db_store.specs.declared.object.Target.{Target}
-use Rattle.db_store.specs.Fits as fit
-use Rattle.db_store.specs.Fits.{Fits, FitsObject, FitsEntry, FitsValue, FitsTarget, FitsProperty}
-use Rattle.db_store.specs.Limits.{has_type}
-use Rattle.db_store.specs.Objects.{find, object_of, entry, values_if_stored, targets_if_stored, values_at, targets_at, as_value}
+use Rattle.db_store.specs.Fits.{Fits}
+use Rattle.db_store.specs.Objects.{find, object_of, as_value}
 use Rattle.eql_sem.specs.declared.binding.Bound.TheVariants as bound
 use Rattle.eql_sem.specs.declared.binding.Name.TheVariants as name
 use Rattle.core_ir.specs.Path.{subject}
-use Rattle.eql_steps.specs.Steps.{of_object, property_named, property_at, argument_named, link_property, is_target, targets_among, is_source, property, sources_among, is_of_type, narrowed}
+use Rattle.eql_steps.specs.Steps.{of_object, is_target, targets_among, is_source, property, sources_among, is_of_type, narrowed}
 use Rattle.eql_world.specs.StoreWorld.{Computes, values_for, stepped, world_where, knowing, computing, world_of}
 use Rattle.eql_agree.specs.Kinds.{Each}
-use Rattle.eql_agree.specs.Agreeing.{IfThere}
 use Rattle.eql_agree.specs.Uniform.{anything, IsClosed, AgreeOn, Literals}
 use Rattle.eql_agree.proofs.Lists.{each_all_of, each_collect}
 use Rattle.eql_agree.proofs.Anything.{asks_anything}

@@ -10,7 +10,6 @@ use Rattle.ev_value.specs.declared.item.Item.{Item}
 use Rattle.ev_value.specs.declared.value.ScalarTy.{ScalarTy}
 use Rattle.ev_value.specs.declared.value.ScalarTy.TheVariants as scalar
 use Rattle.ev_value.specs.declared.value.Val.{Val}
-use Rattle.ev_value.specs.declared.value.Val as val
 use Rattle.ev_value.specs.declared.value.Val.TheVariants as made
 use Rattle.ev_value.proofs.Items.{each_bind}
 use Rattle.core_ir.specs.declared.path.PtrId.{PtrId}
@@ -29,7 +28,6 @@ use Rattle.ev_schema.specs.declared.schema.Schema.{Schema}
 use Rattle.ev_schema.specs.Pointers.{is_id}
 use Rattle.ev_schema.specs.Steps.{type_of_body, type_stored}
 use Rattle.ev_schema.specs.Types.{is_subtype}
-use Rattle.db_store.specs.declared.object.Entry.{Entry}
 use Rattle.db_store.specs.declared.object.LinkValue.{LinkValue}
 use Rattle.db_store.specs.declared.object.Object.{Object}
 use Rattle.db_store.specs.declared.object.PtrValue.{PtrValue}
