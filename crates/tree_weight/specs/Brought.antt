@@ -1,5 +1,5 @@
 -- What a schema brings into a tree: its rules, and the expressions of its computed pointers.
-use Rattle.std.specs.Prelude.{◌==◌, List, [], ◌∷◌, get_or, length, map, Option, Some, None, slice_get, if◌then◌else◌}
+use Rattle.std.specs.Prelude.{◌==◌, List, [], ◌∷◌, length, map, Option, Some, None, slice_get, unwrap_or, if◌then◌else◌}
 use Rattle.core_ir.specs.declared.path.PtrId.{PtrId}
 use Rattle.core_ir.specs.declared.path.TypeId.{TypeId}
 use Rattle.core_ir.specs.declared.phase.Core.{Core}
@@ -54,7 +54,7 @@ module _ {A : Type 0} (m : Measure A) where
 
   -- what some rules bring, at each type of a schema those that concern it
   abbrev pub by_rules : Schema → List (Ruling A) → TypeId → A
-  by_rules schema rules t = get_or (rules_below m schema.types rules (length schema.types)) t.0 m.none
+  by_rules schema rules t = unwrap_or (slice_get (rules_below m schema.types rules (length schema.types)) t.0) m.none
 
   -- In a query a rule brings itself and, where it is for reading, its condition, in which rules do not count.
   abbrev pub in_query : Schema → Brought A

@@ -1,5 +1,5 @@
 -- Weights and depths as the code keeps them: no greater than just above the limits.
-use Rattle.std.specs.Prelude.{◌≡◌, ℕ, suc, ◌+◌, min, max, List, get_or, unwrap_or}
+use Rattle.std.specs.Prelude.{◌≡◌, ℕ, suc, ◌+◌, min, max, List, slice_get, unwrap_or}
 use Rattle.std.specs.BTreeMap as tree
 use Rattle.std.specs.Ordering.{nat_cmp}
 use Rattle.core_ir.specs.declared.path.TypeId.{TypeId}
@@ -27,13 +27,13 @@ capped_sizes = record {
 
 -- what is kept of types
 abbrev pub kept : List Size → TypeId → Size
-kept sizes t = get_or sizes t.0 no_size
+kept sizes t = unwrap_or (slice_get sizes t.0) no_size
 
 -- what is kept as brought
 abbrev pub brought_of : Weights → Brought Size
 brought_of w = record {
   by_type = kept w.types;
-  by_link = λ p. get_or w.links p.0 no_size;
+  by_link = λ p. unwrap_or (slice_get w.links p.0) no_size;
   by_computed = λ p. unwrap_or (tree.get nat_cmp w.computed p.0) no_size;
 }
 

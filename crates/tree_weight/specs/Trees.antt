@@ -35,7 +35,7 @@ module _ {A : Type 0} (m : Measure A) (b : Brought A) where
     measured (e.In' _ _ _ (more_of-Expr x end_of-Expr) _ _ _ (more_of-Expr set end_of-Expr)) = m.above (m.beside (measured x) (measured set))
     measured (e.OfSet' _ _ _ _ _ (more_of-Expr set end_of-Expr)) = m.above (measured set)
     measured (e.Union' _ _ _ _ (more_of-Expr x end_of-Expr) _ _ _ (more_of-Expr y end_of-Expr)) = m.above (m.beside (measured x) (measured y))
-    measured (e.Set' _ _ elements) = m.above (scopes m.none elements)
+    measured (e.Set' _ _ parts) = m.above (scopes m.none parts)
     measured (e.Coalesce' _ _ (more_of-Expr x end_of-Expr) _ _ _ (more_of-Expr y end_of-Expr)) = m.above (m.beside (measured x) (measured y))
     measured (e.If' _ _ _ (more_of-Expr condition end_of-Expr) _ _ _ (more_of-Expr value end_of-Expr) _ _ _ (more_of-Expr other end_of-Expr)) =
         m.above (m.beside (measured condition) (m.beside (measured value) (measured other)))
@@ -44,7 +44,7 @@ module _ {A : Type 0} (m : Measure A) (b : Brought A) where
         m.above (m.beside (m.beside (aliases m.none parts) (keys (m.beside (measured subject) (clause filter)) orders)) (m.beside (clause offset) (clause limit)))
     measured (e.For' _ _ parts _ _ _ _ (more_of-Expr iterator end_of-Expr) _ _ _ (more_of-Expr body end_of-Expr)) =
         m.above (m.beside (aliases m.none parts) (m.beside (measured iterator) (measured body)))
-    measured (e.Array' _ _ _ elements) = m.above (exprs m.none elements)
+    measured (e.Array' _ _ _ parts) = m.above (exprs m.none parts)
     measured (e.ArrayCast' _ _ _ (more_of-Expr x end_of-Expr)) = m.above (measured x)
     measured (e.Unpack' _ _ (more_of-Expr x end_of-Expr)) = m.above (measured x)
     measured (e.EmptySet _ _) = leaf m

@@ -6,14 +6,13 @@
 #![tactic(auto)]
 
 mod limits;
-mod ruling;
 mod rules;
+mod ruling;
 mod size;
 #[cfg(test)]
 mod tests;
 mod trees;
 mod weights;
-
 
 pub use size::Size;
 pub use weights::Weights;

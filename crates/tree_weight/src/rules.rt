@@ -101,10 +101,7 @@ pub fn rulings(
 }
 
 /// Each rule alone.
-pub fn rulings_alone(
-    alloc: Global,
-    policies: &[Policy],
-) -> Result<List<Ruling<Size>>, AllocError>
+pub fn rulings_alone(alloc: Global, policies: &[Policy]) -> Result<List<Ruling<Size>>, AllocError>
     ensures { IfOk result (λ l. l ≡ map (alone_of capped_sizes) policies.now) }
 {
     let mut rules = List::new(alloc);

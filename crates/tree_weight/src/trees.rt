@@ -75,7 +75,9 @@ impl Weights {
             Expr::For(_, aliases, _, iterator, body) => {
                 let aliases = self.aliases(aliases.as_slice());
                 let iterator = self.measured(iterator.body.get());
-                aliases.beside(iterator.beside(self.measured(body.body.get()))).above()
+                aliases
+                    .beside(iterator.beside(self.measured(body.body.get())))
+                    .above()
             }
         }
     }
@@ -105,7 +107,8 @@ impl Weights {
     fn cut(&self, select: &Select) -> Size
         ensures { result ≡ of_cut capped_sizes (brought_of self.now) select.now }
     {
-        self.clause(&select.offset).beside(self.clause(&select.limit))
+        self.clause(&select.offset)
+            .beside(self.clause(&select.limit))
     }
 
     #[cycle(measured)]

@@ -1,12 +1,14 @@
 //! What a schema brings into a tree, made once.
-ghost use Rattle.std.specs.Prelude.{◌≡◌, get_or, map, length, ◌<◌, ◌^◌, IfOk, OnOk};
+ghost use Rattle.std.specs.Prelude.{◌≡◌, map, slice_get, unwrap_or, length, ◌<◌, ◌^◌, IfOk, OnOk};
 ghost use Rattle.ev_schema.specs.Pointers.{target_of as target_of_body};
+ghost use Rattle.ev_schema.specs.Facts.{with_computed as with_computed_in};
+ghost use Rattle.ev_schema.specs.declared.schema.Schema.{Schema};
 ghost use Rattle.tree_weight.specs.Brought.{with_target, by_types, with_computed, brought_over, without_rules as without_rules_of, by_rules};
 ghost use Rattle.tree_weight.specs.Capped.{brought_of, capped_sizes, no_size, kept, ForQueries, ForExpressions};
 ghost use Rattle.tree_weight.specs.Measure.{at_root as at_root_of, with_step as with_step_of, along as along_of};
 
-use crate::ruling::Ruling;
 use crate::rules::{rulings, rulings_alone, sizes_of_types};
+use crate::ruling::Ruling;
 use crate::size::Size;
 use core_ir::{PtrId, Root, Step, Ty, TypeId};
 use ev_schema::{Body, Computed, PtrInfo, Schema};
@@ -25,7 +27,7 @@ pub struct Weights {
 
 /// The size at a place, or that of nothing.
 fn size_at(sizes: &[Size], place: u32) -> Size
-    ensures { result ≡ get_or sizes.now place no_size }
+    ensures { result ≡ unwrap_or (slice_get sizes.now place) no_size }
 {
     match at(sizes, place as usize) {
         Some(size) => *size,
@@ -87,7 +89,8 @@ impl Weights {
 
     /// One more computed pointer. Its expression names only pointers that came before.
     pub fn add(&mut self, computed: &Computed) -> Result<(), AllocError>
-        ensures { OnOk result (brought_of self.new ≡ with_computed capped_sizes (brought_of self.old) computed.now) }
+        ensures brought { OnOk result (brought_of self.new ≡ with_computed capped_sizes (brought_of self.old) computed.now) }
+        ensures expressions { OnOk result ((schema : Schema) → ForExpressions schema self.old → ForExpressions (with_computed_in computed.now schema) self.new) }
     {
         let size = self.measured(computed.expr.typed.core.root.body.get());
         self.computed.insert(computed.pointer.0, size)?;
@@ -99,7 +102,8 @@ impl Weights {
         ensures { IfOk result (λ w. brought_of w ≡ brought_over capped_sizes (kept types) schema.now) }
     {
         let mut weights = Weights::of_types(alloc, types, schema.pointers())?;
-        for computed in schema.all_computed() {
+        let listed = schema.all_computed();
+        for computed in listed {
             weights.add(computed)?;
         }
         Ok(weights)
@@ -136,7 +140,7 @@ impl Weights {
     }
 
     /// What a schema brings into its own expressions while they are checked.
-    pub fn of_schema_expressions(alloc: Global, schema: &Schema) -> Result<Weights, AllocError>
+    pub fn of_expressions(alloc: Global, schema: &Schema) -> Result<Weights, AllocError>
         requires { length schema.now.types < 2 ^ 32 }
         ensures { IfOk result (λ w. ForExpressions schema.now w) }
     {
