@@ -156,7 +156,7 @@ module _ {A B : Type 0} (m : Measure A) (n : Measure B) (R : A → B → Type 0)
 
   -- ---- rules
 
-  RulesAlike : List (Ruling A) → List (Ruling B) → Type 0
+  abbrev RulesAlike : List (Ruling A) → List (Ruling B) → Type 0
   RulesAlike [] [] = Unit {0}
   RulesAlike (r ∷ rs) (q ∷ qs) = (r.origin ≡ q.origin) × (R r.size q.size × RulesAlike rs qs)
   RulesAlike _ _ = ⊥
@@ -167,11 +167,11 @@ module _ {A B : Type 0} (m : Measure A) (n : Measure B) (R : A → B → Type 0)
 
   rulings_alike : (f : Expr → A) (g : Expr → B) (cs : List (Option Carded)) (i : ℕ) (ps : List Policy) → ((t : Expr) → R (f t) (g t)) → RulesAlike (rulings m f cs i ps) (rulings n g cs i ps)
   rulings_alike f g cs i [] r = tt
-  rulings_alike f g cs i (p ∷ ps) r = (refl, h.above (conditions_alike f g (reads p) (condition_at cs i) r), rulings_alike f g cs (suc i) ps r)
+  rulings_alike f g cs i (p ∷ ps) r = (refl, (h.above (conditions_alike f g (reads p) (condition_at cs i) r), rulings_alike f g cs (suc i) ps r))
 
   alone_alike : (ps : List Policy) → RulesAlike (map (alone m) ps) (map (alone n) ps)
   alone_alike [] = tt
-  alone_alike (p ∷ ps) = (refl, leaves, alone_alike ps)
+  alone_alike (p ∷ ps) = (refl, (leaves, alone_alike ps))
 
   taken : (here there : Bool) → here ≡ there → {a c : A} {b d : B} → R a b → R c d → R (if here then a else c) (if there then b else d)
   taken true true same r s = r
@@ -181,7 +181,7 @@ module _ {A B : Type 0} (m : Measure A) (n : Measure B) (R : A → B → Type 0)
 
   behind : (types : List TypeInfo) (heirs : List TypeId) (rs : List (Ruling A)) (qs : List (Ruling B)) (a : A) (b : B) → R a b → RulesAlike rs qs → R (rules_behind m types heirs a rs) (rules_behind n types heirs b qs)
   behind types heirs [] [] a b r s = r
-  behind types heirs (x ∷ rs) (y ∷ qs) a b r (same, one, more) =
+  behind types heirs (x ∷ rs) (y ∷ qs) a b r (same, (one, more)) =
       behind types heirs rs qs (if concerns types heirs x.origin then m.beside a x.size else a) (if concerns types heirs y.origin then n.beside b y.size else b)
       (taken (concerns types heirs x.origin) (concerns types heirs y.origin) (ap (concerns types heirs) same) (h.beside r one) r) more
   behind types heirs [] (y ∷ qs) a b r s = absurd s
@@ -189,7 +189,7 @@ module _ {A B : Type 0} (m : Measure A) (n : Measure B) (R : A → B → Type 0)
 
   -- ---- types
 
-  BothAlike : List A → List B → Type 0
+  abbrev BothAlike : List A → List B → Type 0
   BothAlike [] [] = Unit {0}
   BothAlike (a ∷ xs) (b ∷ ys) = R a b × BothAlike xs ys
   BothAlike _ _ = ⊥

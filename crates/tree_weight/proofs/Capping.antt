@@ -1,5 +1,6 @@
 -- What is capped tells what is over the limits.
 use Rattle.std.proofs.Common.{◌≡◌, ℕ, zero, suc, ◌+◌, ◌≤◌, ◌<◌, min, max, Bool, true, false, nat_lt, ◌||◌, refl, sym, ap, ◌∙◌, arith}
+use Rattle.std.proofs.lemmas.Bool.{ltb-false, ltb-true, lt-ltb}
 use Rattle.core_ir.specs.declared.phase.Core.{Core}
 use Rattle.ev_schema.specs.declared.schema.Schema.{Schema}
 use Rattle.tree_weight.specs.Brought.{of_query, of_schema_expression}
@@ -20,10 +21,10 @@ capped_next a = omega arith
 pub capped_most : (a b : ℕ) → max (capped a) (capped b) ≡ capped (max a b)
 capped_most a b = omega arith
 
-Weighs : Size → ℕ → Type 0
+abbrev Weighs : Size → ℕ → Type 0
 Weighs s n = s.weight ≡ capped n
 
-Deep : Size → ℕ → Type 0
+abbrev Deep : Size → ℕ → Type 0
 Deep s n = s.depth ≡ capped n
 
 weights : Keeps capped_sizes counting Weighs
@@ -40,14 +41,23 @@ depths = record {
   above = λ {a} {b} r. ap (λ x. capped (suc x)) r ∙ capped_next b;
 }
 
-over_weight : (n : ℕ) → nat_lt 262144 (capped n) ≡ nat_lt 262144 n
-over_weight n = omega arith
+not_less : (k n : ℕ) → n ≤ k → nat_lt k n ≡ false
+not_less k n le = by (nat_lt k n) refl
+  where
+    by : (v : Bool) → nat_lt k n ≡ v → v ≡ false
+    by true e = let less : k < n = ltb-true k n e in absurd (omega arith)
+    by false e = refl
 
-over_depth : (n : ℕ) → nat_lt 64 (capped n) ≡ nat_lt 64 n
-over_depth n = omega arith
+-- A limit below the cap is passed by what is capped exactly where it is passed.
+same_above : (k n : ℕ) → k < 262145 → nat_lt k (capped n) ≡ nat_lt k n
+same_above k n below = by (nat_lt k n) refl
+  where
+    by : (v : Bool) → nat_lt k n ≡ v → nat_lt k (capped n) ≡ v
+    by true e = let less : k < n = ltb-true k n e in lt-ltb k (capped n) (omega arith)
+    by false e = let le : n ≤ k = ltb-false k n e in not_less k (capped n) (omega arith)
 
 over : (s : Size) (w d : ℕ) → s.weight ≡ capped w → s.depth ≡ capped d → is_over s.weight s.depth ≡ is_over w d
-over s w d p q = (λ i. nat_lt 262144 (p i) || nat_lt 64 (q i)) ∙ (λ i. over_weight w i || over_depth d i)
+over s w d p q = (λ i. nat_lt 262144 (p i) || nat_lt 64 (q i)) ∙ (λ i. same_above 262144 w (omega arith) i || same_above 64 d (omega arith) i)
 
 -- What is kept of a query is over the limits exactly where the query is too heavy.
 pub query_is_over : (schema : Schema) (c : Core) → is_over (of_query capped_sizes schema c).weight (of_query capped_sizes schema c).depth ≡ is_too_heavy schema c

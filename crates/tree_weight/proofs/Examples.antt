@@ -44,11 +44,11 @@ users = record { types = record { name = []; is_abstract = false; ancestors = []
 
 -- `select User.name` is a statement, a root and a step.
 three_nodes : weight users (select (path (step.Prop (record { 0 = 0 }) ∷ []))) ≡ 3
-unfolding measured roll-Select carrier.roll carrier.hidden block.hidden-the_row-Expr-0 path select users
+unfolding measured roll-Select carrier.roll carrier.hidden block.hidden-the_row-Expr-0 block.hidden-the_row-Alias-4 block.hidden-the_row-Scope-5 block.hidden-the_row-Key-6 path select users
 three_nodes = refl
 
 three_levels : depth users (select (path (step.Prop (record { 0 = 0 }) ∷ []))) ≡ 3
-unfolding measured roll-Select carrier.roll carrier.hidden block.hidden-the_row-Expr-0 path select users
+unfolding measured roll-Select carrier.roll carrier.hidden block.hidden-the_row-Expr-0 block.hidden-the_row-Alias-4 block.hidden-the_row-Scope-5 block.hidden-the_row-Key-6 path select users
 three_levels = refl
 
 -- `type Admin extending User { access policy p allow select using (true); }` beside `User`, of which pointer 0 is `true`
@@ -64,15 +64,15 @@ guarded = record {
 
 -- A statement, a root, the rule of a descendant and its condition, a computed step and its expression.
 six_nodes : weight guarded (select (path (step.Comp (record { 0 = 0 }) ∷ []))) ≡ 6
-unfolding measured roll-Select carrier.roll carrier.hidden block.hidden-the_row-Expr-0 path select guarded carded literal
+unfolding measured roll-Select carrier.roll carrier.hidden block.hidden-the_row-Expr-0 block.hidden-the_row-Alias-4 block.hidden-the_row-Scope-5 block.hidden-the_row-Key-6 path select guarded carded literal
 six_nodes = refl
 
 -- The condition stands below its rule, this below the root, this below the step, and this below the statement.
 five_levels : depth guarded (select (path (step.Comp (record { 0 = 0 }) ∷ []))) ≡ 5
-unfolding measured roll-Select carrier.roll carrier.hidden block.hidden-the_row-Expr-0 path select guarded carded literal
+unfolding measured roll-Select carrier.roll carrier.hidden block.hidden-the_row-Expr-0 block.hidden-the_row-Alias-4 block.hidden-the_row-Scope-5 block.hidden-the_row-Key-6 path select guarded carded literal
 five_levels = refl
 
 -- While the schema is checked, the condition does not count.
 five_nodes : weight_in_schema guarded (select (path (step.Comp (record { 0 = 0 }) ∷ []))) ≡ 5
-unfolding measured roll-Select carrier.roll carrier.hidden block.hidden-the_row-Expr-0 path select guarded carded literal
+unfolding measured roll-Select carrier.roll carrier.hidden block.hidden-the_row-Expr-0 block.hidden-the_row-Alias-4 block.hidden-the_row-Scope-5 block.hidden-the_row-Key-6 path select guarded carded literal
 five_nodes = refl

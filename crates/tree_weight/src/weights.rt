@@ -87,14 +87,20 @@ impl Weights {
         })
     }
 
-    /// One more computed pointer. Its expression names only pointers that came before.
-    pub fn add(&mut self, computed: &Computed) -> Result<(), AllocError>
-        ensures brought { OnOk result (brought_of self.new ≡ with_computed capped_sizes (brought_of self.old) computed.now) }
-        ensures expressions { OnOk result ((schema : Schema) → ForExpressions schema self.old → ForExpressions (with_computed_in computed.now schema) self.new) }
+    /// One more computed pointer with all that is brought so far.
+    fn bring(&mut self, computed: &Computed) -> Result<(), AllocError>
+        ensures { OnOk result (brought_of self.new ≡ with_computed capped_sizes (brought_of self.old) computed.now) }
     {
         let size = self.measured(computed.expr.typed.core.root.body.get());
         self.computed.insert(computed.pointer.0, size)?;
         Ok(())
+    }
+
+    /// One more computed pointer of a schema that is being built. Its expression names only pointers that came before.
+    pub fn add(&mut self, computed: &Computed) -> Result<(), AllocError>
+        ensures { OnOk result ((schema : Schema) → ForExpressions schema self.old → ForExpressions (with_computed_in computed.now schema) self.new) }
+    {
+        self.bring(computed)
     }
 
     /// What some types bring, and the computed pointers of a schema over them.
@@ -104,7 +110,7 @@ impl Weights {
         let mut weights = Weights::of_types(alloc, types, schema.pointers())?;
         let listed = schema.all_computed();
         for computed in listed {
-            weights.add(computed)?;
+            weights.bring(computed)?;
         }
         Ok(weights)
     }
