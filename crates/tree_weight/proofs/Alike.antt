@@ -138,7 +138,6 @@ module _ {A B : Type 0} (m : Measure A) (n : Measure B) (R : A → B → Type 0)
       by_computed = λ p. chosen (c.pointer.0 == p.0) (trees c.expr.typed.core.root.body) (k.by_computed p);
     }
 
-
   every_computed : (x : Brought A) (y : Brought B) (cs : List Computed) → BroughtAlike R x y → BroughtAlike R (with_all m x cs) (with_all n y cs)
   every_computed x y [] k = k
   every_computed x y (c ∷ cs) k = every_computed (with_computed m x c) (with_computed n y c) cs (one_computed x y k c)
