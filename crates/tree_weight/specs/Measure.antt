@@ -31,12 +31,14 @@ module _ {A : Type 0} (m : Measure A) where
   all_behind f before [] = before
   all_behind f before (x ∷ more) = all_behind f (m.beside before (f x)) more
 
-  -- the root of a path: a node above what comes with the objects of a type, if it is one
+  -- The root of a path: a node above what comes with the objects of a type, where it is all of these. Any other root has been
+  -- counted where its objects are reached.
   abbrev pub at_root : Brought A → Root → A
   at_root b (root.Extent t) = m.above (b.by_type t)
   at_root b _ = leaf
 
-  -- what comes with a step: the rules of the type that it leads to, or the expression of a computed pointer
+  -- What comes with a step: the rules of the type that it leads to, by a link, by a back link or by `[is T]`; or the expression
+  -- of a computed pointer, in which the rules of the types that are reached there are counted.
   abbrev pub with_step : Brought A → Step → A
   with_step b (step.Link p) = b.by_link p
   with_step b (step.Comp p) = b.by_computed p

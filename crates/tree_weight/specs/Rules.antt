@@ -45,7 +45,8 @@ module _ {A : Type 0} (m : Measure A) where
   of_condition measured for_reading None = m.none
   of_condition measured for_reading (Some c) = if for_reading then measured c.typed.core.root.body else m.none
 
-  -- Each rule, with the type that declares it, is a node above its condition; the first one stands at the place k.
+  -- Each rule, with the type that declares it, is a node above its condition; the first one stands at the place k. So the
+  -- condition is two levels below the root or step that brings the rule.
   abbrev pub rulings : (Expr → A) → List (Option Carded) → ℕ → List Policy → List (Ruling A)
   rulings measured conditions k [] = []
   rulings measured conditions k (p ∷ more) =

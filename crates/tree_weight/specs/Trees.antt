@@ -12,7 +12,7 @@ use Rattle.core_ir.specs.declared.tree.Select.{Select, out-Select, Select', Held
 use Rattle.tree_weight.specs.Measure.{Measure, Brought, leaf, all_behind, at_root, along}
 
 module _ {A : Type 0} (m : Measure A) (b : Brought A) where
-  -- a path: its root, or the expression that it begins with and a node above it, and then its steps
+  -- A path: its root and then its steps. Where it begins with an expression, its root is a node above that one.
   abbrev pub path : Occurrence → A
   path o = along m b (at_root m b o.path.root) o.path.steps
 
