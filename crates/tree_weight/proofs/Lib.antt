@@ -1,0 +1,5 @@
+pub mod Forms
+pub mod Alike
+pub mod Capping
+pub mod Adding
+pub mod Examples
