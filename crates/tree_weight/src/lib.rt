@@ -3,6 +3,7 @@
 //! Contract: a tree is told to be too heavy exactly where its weight or its depth, as plain numbers, is over its limit
 //! (`specs/Weight`, `specs/Depth`, `specs/Heavy`), however often what computed pointers share is brought in.
 //! What is shared is measured once, in the order in which a schema came to know it.
+//! Seen by no crate yet.
 #![tactic(auto)]
 
 mod limits;
