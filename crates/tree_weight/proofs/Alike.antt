@@ -1,5 +1,5 @@
 -- Two measures that agree on what a node is and on what stands beside each other agree on whole trees.
-use Rattle.std.proofs.Common.{◌≡◌, ℕ, zero, suc, ◌==◌, Bool, true, false, List, [], ◌∷◌, ◌++◌, Option, Some, None, map, length, slice_get, unwrap_or, refl, sym, ap, ◌∙◌, subst, if◌then◌else◌}
+use Rattle.std.proofs.Common.{◌≡◌, ℕ, zero, suc, ◌==◌, Bool, true, false, List, [], ◌∷◌, ◌++◌, Option, Some, None, map, length, slice_get, unwrap_or, refl, ap, if◌then◌else◌}
 use Rattle.core_ir.specs.declared.path.PtrId.{PtrId}
 use Rattle.core_ir.specs.declared.path.Root.{Root}
 use Rattle.core_ir.specs.declared.path.Root.TheVariants as root
@@ -12,17 +12,15 @@ use Rattle.core_ir.specs.declared.tree.Expr.{Expr, Row_of-Expr, end_of-Expr, mor
 use Rattle.core_ir.specs.declared.tree.Expr as e
 use Rattle.core_ir.specs.declared.tree.Key as key
 use Rattle.core_ir.specs.declared.tree.Occurrence.{Occurrence}
-use Rattle.core_ir.specs.declared.tree.Select.{Select, Select', Held-Select-filter, None', Some', Row_of-Key, end_of-Key, more_of-Key}
-use Rattle.ev_schema.specs.Pointers.{target_of}
+use Rattle.core_ir.specs.declared.tree.Select.{Select', Held-Select-filter, None', Some', Row_of-Key, end_of-Key, more_of-Key}
 use Rattle.ev_schema.specs.declared.pointer.Computed.{Computed}
-use Rattle.ev_schema.specs.declared.pointer.PtrInfo.{PtrInfo}
 use Rattle.ev_schema.specs.declared.policy.Policy.{Policy}
 use Rattle.ev_schema.specs.declared.schema.Schema.{Schema}
 use Rattle.ev_schema.specs.declared.types.TypeInfo.{TypeInfo}
 use Rattle.tree_weight.specs.Brought.{target_if_known, with_target, by_types, with_computed, with_all, brought_over, without_rules, by_rules, in_query, in_schema, of_query, of_schema_expression}
 use Rattle.tree_weight.specs.Measure.{Measure, Brought, leaf, at_root, with_step, along}
 use Rattle.tree_weight.specs.Rules.{concerns, reads, condition_at, of_condition, rulings, alone, rules_behind, rules_of, rules_below, heirs_below}
-use Rattle.tree_weight.specs.Trees.{path, path_from, measured, exprs, scopes, aliases, elements, keys, key_of, clause}
+use Rattle.tree_weight.specs.Trees.{path, measured, exprs, scopes, aliases, elements, keys, key_of, clause}
 use Rattle.tree_weight.specs.declared.ruling.Ruling.{Ruling}
 
 -- A relation that nothing, things beside each other and nodes above something keep.

@@ -1,25 +1,21 @@
 -- Worked trees.
-use Rattle.std.proofs.Common.{◌≡◌, ℕ, Bool, true, false, List, [], ◌∷◌, Option, Some, None, refl}
+use Rattle.std.proofs.Common.{◌≡◌, true, false, List, [], ◌∷◌, Some, None, refl}
 use Rattle.ev_value.specs.declared.value.ScalarTy.TheVariants as scalar
 use Rattle.ev_value.specs.declared.value.Val.TheVariants as val
 use Rattle.core_ir.specs.declared.card.Card.TheVariants as card
 use Rattle.core_ir.specs.declared.path.Root.TheVariants as root
 use Rattle.core_ir.specs.declared.path.Step.{Step}
 use Rattle.core_ir.specs.declared.path.Step.TheVariants as step
-use Rattle.core_ir.specs.declared.path.TypeId.{TypeId}
 use Rattle.core_ir.specs.declared.phase.Carded.{Carded}
 use Rattle.core_ir.specs.declared.phase.Core.{Core}
 use Rattle.core_ir.specs.declared.tree.Expr.{Expr}
 use Rattle.core_ir.specs.declared.tree.Expr.TheBlock as block
 use Rattle.core_ir.specs.declared.tree.Expr.TheVariants as form
-use Rattle.core_ir.specs.declared.tree.Select.{Select, roll-Select}
+use Rattle.core_ir.specs.declared.tree.Select.{roll-Select}
 use Rattle.core_ir.specs.declared.ty.Ty.TheVariants as ty
-use Rattle.ev_schema.specs.declared.policy.Policy.{Policy}
 use Rattle.ev_schema.specs.declared.policy.PolicyKind.TheVariants as kind
-use Rattle.ev_schema.specs.declared.pointer.Computed.{Computed}
 use Rattle.ev_schema.specs.declared.schema.Schema.{Schema}
-use Rattle.ev_schema.specs.declared.types.TypeInfo.{TypeInfo}
-use Rattle.tree_weight.specs.Depth.{depth, depth_in_schema}
+use Rattle.tree_weight.specs.Depth.{depth}
 use Rattle.tree_weight.specs.Trees.{measured}
 use Rattle.tree_weight.specs.Weight.{weight, weight_in_schema}
 use denote.Hole.Carrier as carrier

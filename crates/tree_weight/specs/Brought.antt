@@ -1,6 +1,5 @@
 -- What a schema brings into a tree: its rules, and the expressions of its computed pointers.
 use Rattle.std.specs.Prelude.{◌==◌, List, [], ◌∷◌, length, map, Option, Some, None, slice_get, unwrap_or, if◌then◌else◌}
-use Rattle.core_ir.specs.declared.path.PtrId.{PtrId}
 use Rattle.core_ir.specs.declared.path.TypeId.{TypeId}
 use Rattle.core_ir.specs.declared.phase.Core.{Core}
 use Rattle.ev_schema.specs.Pointers.{target_of}

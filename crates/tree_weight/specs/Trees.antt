@@ -1,5 +1,5 @@
 -- What an expression comes to: each form is a node above its parts. Keys, elements, aliases and scopes are no nodes.
-use Rattle.std.specs.Prelude.{List, [], ◌∷◌, Option, Some, None}
+use Rattle.std.specs.Prelude.{Option, Some, None}
 use Rattle.core_ir.specs.declared.tree.Alias.{Alias}
 use Rattle.core_ir.specs.declared.tree.Conditional.{Conditional}
 use Rattle.core_ir.specs.declared.tree.Element.{Element}
