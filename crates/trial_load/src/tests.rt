@@ -463,9 +463,9 @@ fn an_object_is_found_by_its_id(rt: HostRuntime) -> Result<(), Fail> {
     let alloc = rt.alloc();
     let schema = schema_in(alloc, PEOPLE).ok_or("there is no schema")?;
     let store = turned(alloc, &schema).ok_or("there is no store")?;
-    for id in 1..4u128 {
-        let object = store.find(id).ok_or("there is no such object")?;
-        assert_eq!(rt; object.id, id);
+    for id in 1..4u64 {
+        let object = store.find(id as u128).ok_or("there is no such object")?;
+        assert_eq!(rt; object.id, id as u128);
     }
     assert!(rt; store.find(0).is_none());
     assert!(rt; store.find(4).is_none());
