@@ -4,7 +4,7 @@
 //! by name.
 //! Contract: each function answers what the rule of its name tells (`specs/Paths`, `Forms`, `Shapes`, `Statements`), with the
 //! first failure where there is one, but for want of memory (`Answers` of `specs/Naming`).
-//! Seen by no crate yet: the phase that names whole trees is to stand on it.
+//! Seen by `eql_resolve`.
 #![tactic(auto)]
 
 mod around;

@@ -2,7 +2,7 @@
 //! Takes types and a schema by its names (`ev_index`); gives a type, or the steps of a path with the type behind them.
 //! Contract: each answer is what the definition of the same name says (`specs/Agreement`, `specs/Tables`, `specs/Steps`, `specs/Known`);
 //! `walk` refuses by the first step that fails, and asks for the expression of a computed pointer that is not known yet.
-//! Seen by no crate yet: the phase that gives whole trees their types is to stand on it.
+//! Seen by `type_infer`.
 #![tactic(auto)]
 
 mod agreement;

@@ -1,0 +1,4 @@
+pub mod Choices
+pub mod Shaping
+pub mod Resolving
+pub mod Verdict

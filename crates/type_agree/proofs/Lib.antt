@@ -1,0 +1,12 @@
+pub mod Widened
+pub mod Tables
+pub mod Walks
+pub mod Ends
+pub mod Scopes
+pub mod Rows
+pub mod Forms
+pub mod Trees
+pub mod Instances
+pub mod Numbers
+pub mod ComputedLaws
+pub mod GrowthLaws
